@@ -1,0 +1,6 @@
+pub mod Network
+pub mod Table
+pub mod Answers
+pub mod Steps
+pub mod Runs
+pub mod Parts

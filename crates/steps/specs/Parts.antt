@@ -1,0 +1,51 @@
+-- The parts of an answer: 16 message, 17 fault, 18 output.
+use Prim.Native.Nat.{ℕ, _+_}
+use mathlib.Core.List.{List, [], _∷_, _++_}
+use mathlib.Core.Bool.{Bool, true, false, cond, _&&_}
+use lib.Dec.{eqb, leb}
+use Rattle.steps.specs.declared.reader.Output.{Output}
+use Rattle.steps.specs.declared.reader.Output.the-variants.{Missing, Value}
+use Rattle.steps.specs.declared.reader.Parts.{Parts}
+use Rattle.steps.specs.Answers.{Rec, Tape, tape}
+use Rattle.steps.specs.Steps.{Entry, message, fault, out}
+use Rattle.steps.specs.Runs.{going, Run, Left}
+
+unfoldable pub isPart : ℕ → Bool
+isPart kind = leb 16 kind && leb kind 18
+
+-- a message becomes one of the proposer's, of kind 1 (broadcast) or 2 (agreement); a fault becomes fault 8 or 9, with the kind given
+unfoldable pub partEntries : ℕ → ℕ → ℕ → ℕ → ℕ → List Entry
+partEntries content proposer kind a b =
+    cond (eqb kind 16) (message content proposer b ∷ [])
+    (cond (eqb kind 17) (fault (content + 7) a b ∷ []) [])
+
+-- "Of several outputs the last counts, as `pop` does"
+unfoldable pub lastOutput : Output → ℕ → ℕ → Output
+lastOutput output kind b = cond (eqb kind 18) (Value b) output
+
+-- what parts come to: the last output, where the reader stands, and the entries
+pub record Told : Type 0 where
+  pub output : Output
+  pub tape : Tape
+  pub log : List Entry
+
+-- the parts from here on, where `output` is the last so far and the reader stands at place i
+unfoldable pub partsFrom : ℕ → ℕ → Output → ℕ → List Rec → Told
+partsFrom content proposer output i [] = record { output = output; tape = tape i []; log = [] }
+partsFrom content proposer output i (r ∷ rs) =
+    elim (isPart (r .kind)) [
+      | true ↦ (let told = partsFrom content proposer (lastOutput output (r .kind) (r .b)) (r .next) rs in
+          record { output = told .output; tape = told .tape; log = partEntries content proposer (r .kind) (r .a) (r .b) ++ told .log })
+      | false ↦ record { output = output; tape = tape i (r ∷ rs); log = [] }
+    ]
+
+abbrev pub toldBy : {S : Type 0} → S → Told → Run S Output
+toldBy s told = record { state = s; verdict = going (told .output); tape = told .tape; log = told .log }
+
+-- reading the parts of an answer, in any layer
+abbrev pub readParts : {S : Type 0} → ℕ → ℕ → S → Tape → Run S Output
+readParts content proposer s p = toldBy s (partsFrom content proposer Missing (p .place) (p .rest))
+
+-- what the reader leaves; it has no state of its own
+abbrev pub left : Parts → Tape → List ℕ → Left (Unit {0}) Output
+left r p w = record { state = tt; verdict = going (r .output); tape = p; out = out (r .step) w }

@@ -1,0 +1,92 @@
+// Reply 5: whether a table of words is an answer table, as document 01 has it.
+ghost use mathlib.Core.Path.{_≡_};
+ghost use Rattle.steps.specs.Table.{handle, recordOk, contextAfter, shapeOk, mayFollow, tableOk};
+
+// A handle stands for bytes that the host holds.
+pub fn is_handle(b: u64) -> bool
+    ensures { λ r. ⌜ r ≡ handle b ⌝ }
+{
+    (1 <= b) & (b <= 4294967295)
+}
+
+// Whether a record keeps its kind's own range for a and b. The context is the kind of the answer that a part would belong to, or 0.
+pub fn record_ok(n: u64, context: u64, kind: u64, a: u64, b: u64) -> bool
+    ensures { λ r. ⌜ r ≡ recordOk n context kind a b ⌝ }
+{
+    match kind {
+        1 => (a <= 1) & (b == 0),
+        2 | 12 => if a == 0 {
+            b == 0
+        } else {
+            (a == 1) & is_handle(b)
+        },
+        3..=10 | 13 => (a <= 1) & (b < n),
+        11 => (a == 1) & is_handle(b),
+        16 => (0 < context) & (a == 0),
+        17 => (0 < context) & (a < n) & (b <= 4294967295),
+        18 => (0 < context) & (a == 0) & (if context <= 4 { is_handle(b) } else { b <= 1 }),
+        _ => false,
+    }
+}
+
+// The context for what follows a record: an answer of 3 to 7 with a = 1 opens one, its parts keep it, all else ends it.
+fn context_after(context: u64, kind: u64, a: u64) -> u64
+    ensures { λ r. ⌜ r ≡ contextAfter context kind a ⌝ }
+{
+    match kind {
+        3..=7 => if a == 1 { kind } else { 0 },
+        16..=18 => context,
+        _ => 0,
+    }
+}
+
+// The table's length, and the three zeros of record 0.
+fn shape_ok(answers: &[u64]) -> bool
+    ensures { λ r. ⌜ r ≡ shapeOk (now (answers .entry)) ⌝ }
+{
+    let len = answers.len();
+    if len < 4 {
+        return false;
+    }
+    (len <= 4096) & (len % 4 == 0) & (answers[1] == 0) & (answers[2] == 0) & (answers[3] == 0)
+}
+
+// Whether record `i` may follow record `own`: its index is above and inside the table, and it keeps its kind's rule.
+fn may_follow(n: u64, answers: &[u64], own: usize, i: usize, context: u64) -> bool
+    ensures { λ r. ⌜ r ≡ mayFollow n (now (answers .entry)) own i context ⌝ }
+{
+    if i <= own {
+        return false;
+    }
+    if answers.len() / 4 <= i {
+        return false;
+    }
+    record_ok(
+        n,
+        context,
+        answers[i * 4 + 1],
+        answers[i * 4 + 2],
+        answers[i * 4 + 3],
+    )
+}
+
+// Whether the words are an answer table for a network of n nodes. Records off the chain are not looked at.
+pub fn table_ok(n: u64, answers: &[u64]) -> bool
+    ensures { λ r. ⌜ r ≡ tableOk n (now (answers .entry)) ⌝ }
+{
+    if !shape_ok(answers) {
+        return false;
+    }
+    let mut own: usize = 0;
+    let mut next = answers[0] as usize;
+    let mut context: u64 = 0;
+    while next != 0 {
+        if !may_follow(n, answers, own, next, context) {
+            return false;
+        }
+        context = context_after(context, answers[next * 4 + 1], answers[next * 4 + 2]);
+        own = next;
+        next = answers[own * 4] as usize;
+    }
+    true
+}

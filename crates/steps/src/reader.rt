@@ -1,0 +1,178 @@
+// The answer reader: the records of the chain, one after the other. The place is lent and moves past what was read.
+ghost use mathlib.Core.Path.{_≡_};
+ghost use Prim.Native.Nat.{_≤_};
+ghost use Rattle.steps.specs.Answers.{chain, tapeAt, asked, headOf, ask, askAbout};
+ghost use Rattle.steps.specs.Steps.{out, putAll};
+ghost use Rattle.steps.specs.Runs.{leaves};
+ghost use Rattle.steps.specs.Parts.{isPart, partEntries, lastOutput, left, readParts};
+use crate::step::Step;
+
+// What stands at a place of the answer table.
+pub enum Found {
+    Record {
+        next: usize,
+        kind: u64,
+        a: u64,
+        b: u64,
+    },
+    End,
+}
+
+// An answer from outside: the words a and b of the record that was wanted, or reply 8.
+pub enum Answer {
+    Got { a: u64, b: u64 },
+    Refused,
+}
+
+// The output of an answer, if it had one.
+pub enum Output {
+    Missing,
+    Value(u64),
+}
+
+// What the parts of an answer came to: their last output, and the step with their messages and faults.
+pub struct Parts {
+    pub output: Output,
+    pub step: Step,
+}
+
+// The record at a place. A next that is not above its own record ends the chain.
+fn peek(answers: &[u64], place: usize) -> Found
+    ensures { λ r. ⌜ r ≡ headOf (chain (now (answers .entry)) place) ⌝ }
+{
+    if place == 0 {
+        return Found::End;
+    }
+    if answers.len() / 4 <= place {
+        return Found::End;
+    }
+    let word = place * 4;
+    let next = answers[word] as usize;
+    let kind = answers[word + 1];
+    let a = answers[word + 2];
+    let b = answers[word + 3];
+    if place < next {
+        return Found::Record { next, kind, a, b };
+    }
+    Found::Record {
+        next: 0,
+        kind,
+        a,
+        b,
+    }
+}
+
+// The next answer, which has to be of this kind.
+pub fn ask(answers: &[u64], place: &mut usize, kind: u64) -> Answer
+    ensures { λ r. ⌜ asked r (tapeAt (now (answers .entry)) (now (place .exit))) ≡ ask (tapeAt (now (answers .entry)) (now (place .entry))) kind ⌝ }
+{
+    let at = *place;
+    match peek(answers, at) {
+        Found::Record {
+            next,
+            kind: found,
+            a,
+            b,
+        } => {
+            if found != kind {
+                return Answer::Refused;
+            }
+            *place = next;
+            Answer::Got { a, b }
+        }
+        Found::End => Answer::Refused,
+    }
+}
+
+// The next answer, which has to be of this kind and about this node.
+pub fn ask_about(answers: &[u64], place: &mut usize, kind: u64, who: u64) -> Answer
+    ensures { λ r. ⌜ asked r (tapeAt (now (answers .entry)) (now (place .exit))) ≡ askAbout (tapeAt (now (answers .entry)) (now (place .entry))) kind who ⌝ }
+{
+    let at = *place;
+    match peek(answers, at) {
+        Found::Record {
+            next,
+            kind: found,
+            a,
+            b,
+        } => {
+            if found != kind {
+                return Answer::Refused;
+            }
+            if b != who {
+                return Answer::Refused;
+            }
+            *place = next;
+            Answer::Got { a, b }
+        }
+        Found::End => Answer::Refused,
+    }
+}
+
+fn is_part(kind: u64) -> bool
+    ensures { λ r. ⌜ r ≡ isPart kind ⌝ }
+{
+    (16 <= kind) & (kind <= 18)
+}
+
+// The step with a part's message or fault. `content` is 1 for a broadcast's parts, 2 for an agreement's.
+fn part_entry(
+    step: Step,
+    words: &mut [u64],
+    content: u64,
+    proposer: u64,
+    kind: u64,
+    a: u64,
+    b: u64,
+) -> Step
+    requires { ⌜ content ≤ 2 ⌝ }
+    ensures { λ r. ⌜ out r (now (words .exit)) ≡ putAll (out step (now (words .entry))) (partEntries content proposer kind a b) ⌝ }
+{
+    if kind == 16 {
+        return step.message(words, content, proposer, b);
+    }
+    if kind == 17 {
+        return step.fault(words, content + 7, a, b);
+    }
+    step
+}
+
+// Of several outputs the last counts, as `pop` does.
+fn last_output(output: Output, kind: u64, b: u64) -> Output
+    ensures { λ r. ⌜ r ≡ lastOutput output kind b ⌝ }
+{
+    if kind == 18 {
+        return Output::Value(b);
+    }
+    output
+}
+
+// Reads the parts of an answer to their end.
+pub fn read_parts(
+    answers: &[u64],
+    place: &mut usize,
+    content: u64,
+    proposer: u64,
+    step: Step,
+    words: &mut [u64],
+) -> Parts
+    requires { ⌜ content ≤ 2 ⌝ }
+    ensures { λ r. ⌜ left r (tapeAt (now (answers .entry)) (now (place .exit))) (now (words .exit)) ≡ leaves (out step (now (words .entry))) (readParts content proposer tt (tapeAt (now (answers .entry)) (now (place .entry)))) ⌝ }
+{
+    let mut output = Output::Missing;
+    let mut s = step;
+    loop {
+        let at = *place;
+        match peek(answers, at) {
+            Found::Record { next, kind, a, b } => {
+                if !is_part(kind) {
+                    return Parts { output, step: s };
+                }
+                s = part_entry(s, words, content, proposer, kind, a, b);
+                output = last_output(output, kind, b);
+                *place = next;
+            }
+            Found::End => return Parts { output, step: s },
+        }
+    }
+}
