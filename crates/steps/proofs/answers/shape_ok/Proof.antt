@@ -1,0 +1,35 @@
+use borrow.Author.Needs.{needs}
+use Rattle.steps.proofs.answers.shape_ok.Statement.{statement}
+use Rattle.steps.proofs.answers.shape_ok.Tie as tie
+use Rattle.steps.proofs.answers.shape_ok.Reads as reads
+use Rattle.steps.proofs.answers.shape_ok.Lts as lts
+
+-- src/answers.rt:49:9
+returns : tie.Need-returns
+returns c = ?
+
+-- src/answers.rt:51:39
+shared-slice-read-result : tie.Need-shared-slice-read-result
+shared-slice-read-result c = search needs
+
+-- src/answers.rt:51:59
+shared-slice-read-result-2 : tie.Need-shared-slice-read-result-2
+shared-slice-read-result-2 c = search needs
+
+-- src/answers.rt:51:79
+shared-slice-read-result-3 : tie.Need-shared-slice-read-result-3
+shared-slice-read-result-3 c = search needs
+
+-- src/answers.rt:44:1
+returns-2 : tie.Need-returns-2
+returns-2 c = ?
+
+pub shape-ok-spec : {M : Type 1} → statement M
+shape-ok-spec =
+    tie.close
+    (tie.spec
+    returns
+    shared-slice-read-result
+    shared-slice-read-result-2
+    shared-slice-read-result-3
+    returns-2)

@@ -1,0 +1,11 @@
+use Rattle.steps.proofs.reader.is_part.Statement.{statement}
+use Rattle.steps.proofs.reader.is_part.Tie as tie
+use Rattle.steps.proofs.reader.is_part.Reads as reads
+use Rattle.steps.proofs.reader.is_part.Lts as lts
+
+-- src/reader.rt:112:1
+returns : tie.Need-returns
+returns c = ?
+
+pub is-part-spec : {M : Type 1} → statement M
+is-part-spec = tie.close (tie.spec returns)

@@ -1,0 +1,52 @@
+use borrow.Author.Needs.{needs}
+use Rattle.steps.proofs.reader.part_entry.Statement.{statement}
+use Rattle.steps.proofs.reader.part_entry.Tie as tie
+use Rattle.steps.proofs.reader.part_entry.Reads as reads
+use Rattle.steps.proofs.reader.part_entry.Lts as lts
+use Rattle.steps.proofs.step.Step.fault.Reads as fault-reads
+use Rattle.steps.proofs.step.Step.message.Reads as message-reads
+
+-- src/reader.rt:132:9
+message-requires : tie.Need-message-requires
+message-requires c κs = search needs
+
+-- src/reader.rt:132:9
+same-length : tie.Need-same-length
+same-length c = search needs
+
+-- src/reader.rt:132:9
+returns : tie.Need-returns
+returns c = ?
+
+-- src/reader.rt:135:34
+add-fault : tie.Need-add-fault
+add-fault c = search needs
+
+-- src/reader.rt:135:9
+fault-requires : tie.Need-fault-requires
+fault-requires c κs = search needs
+
+-- src/reader.rt:135:9
+same-length-2 : tie.Need-same-length-2
+same-length-2 c = search needs
+
+-- src/reader.rt:135:9
+returns-2 : tie.Need-returns-2
+returns-2 c = ?
+
+-- src/reader.rt:119:1
+returns-3 : tie.Need-returns-3
+returns-3 c = ?
+
+pub part-entry-spec : {M : Type 1} → statement M
+part-entry-spec =
+    tie.close
+    (tie.spec
+    message-requires
+    same-length
+    returns
+    add-fault
+    fault-requires
+    same-length-2
+    returns-2
+    returns-3)
