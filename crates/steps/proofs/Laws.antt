@@ -1,4 +1,4 @@
--- Laws of the answer chain. Assumes nothing.
+-- Laws of the answer chain and of the entries of a step. Assumes nothing.
 use Prim.Native.Nat.{ℕ, zero, suc, _+_, _*_, _/_, _≤_, _<_}
 use mathlib.Core.Logic.{_⊎_, inl, inr, ⊎-elim}
 use mathlib.Core.Path.{_≡_, refl, sym, ap, _∙_}
@@ -21,7 +21,7 @@ and-false : (x : Bool) → x && false ≡ false
 and-false true = refl
 and-false false = refl
 
-and-true : (x y : Bool) → x && y ≡ true → (x ≡ true) × (y ≡ true)
+pub and-true : (x y : Bool) → x && y ≡ true → (x ≡ true) × (y ≡ true)
 and-true true y e = (refl, e)
 and-true false y e = absurd (false≢true e)
 

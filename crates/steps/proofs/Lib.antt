@@ -1,3 +1,5 @@
 pub mod Laws
 pub mod Runs
+pub mod Parts
 pub mod Reading
+pub mod Chain

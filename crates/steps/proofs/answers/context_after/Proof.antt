@@ -1,3 +1,7 @@
+-- Made by `fill` from answers.txt: change that and fill again.
+use native.Mathlib.Omega.{arith}
+use borrow.Author.Tests.{eq-eqb, ne-eqb, le-leb, lt-leb}
+use Rattle.steps.specs.Table.{contextAfter}
 use Rattle.steps.proofs.answers.context_after.Statement.{statement}
 use Rattle.steps.proofs.answers.context_after.Tie as tie
 use Rattle.steps.proofs.answers.context_after.Reads as reads
@@ -5,27 +9,33 @@ use Rattle.steps.proofs.answers.context_after.Lts as lts
 
 -- src/answers.rt:33:1
 returns : tie.Need-returns
-returns c = ?
+unfolding contextAfter
+returns c = rw (le-leb 3 (c .before .before .before .args .kind) (omega arith), le-leb (c .before .before .before .args .kind) 7 (omega arith), c .if3 .taken)
 
 -- src/answers.rt:33:1
 returns-2 : tie.Need-returns-2
-returns-2 c = ?
+unfolding contextAfter
+returns-2 c = rw (le-leb 3 (c .before .before .before .args .kind) (omega arith), le-leb (c .before .before .before .args .kind) 7 (omega arith), ne-eqb _ _ (c .if3 .left))
 
 -- src/answers.rt:33:1
 returns-3 : tie.Need-returns-3
-returns-3 c = ?
+unfolding contextAfter
+returns-3 c = rw (le-leb 3 (c .before .before .before .before .args .kind) (omega arith), lt-leb (c .before .before .before .before .args .kind) 7 (omega arith), le-leb 16 (c .before .before .before .before .args .kind) (omega arith), le-leb (c .before .before .before .before .args .kind) 18 (omega arith))
 
 -- src/answers.rt:33:1
 returns-4 : tie.Need-returns-4
-returns-4 c = ?
+unfolding contextAfter
+returns-4 c = rw (lt-leb 3 (c .before .args .kind) (omega arith), lt-leb 16 (c .before .args .kind) (omega arith))
 
 -- src/answers.rt:33:1
 returns-5 : tie.Need-returns-5
-returns-5 c = ?
+unfolding contextAfter
+returns-5 c = rw (le-leb 3 (c .before .before .before .args .kind) (omega arith), lt-leb (c .before .before .before .args .kind) 7 (omega arith), lt-leb 16 (c .before .before .before .args .kind) (omega arith))
 
 -- src/answers.rt:33:1
 returns-6 : tie.Need-returns-6
-returns-6 c = ?
+unfolding contextAfter
+returns-6 c = rw (le-leb 3 (c .before .before .before .before .args .kind) (omega arith), lt-leb (c .before .before .before .before .args .kind) 7 (omega arith), le-leb 16 (c .before .before .before .before .args .kind) (omega arith), lt-leb (c .before .before .before .before .args .kind) 18 (omega arith))
 
 pub context-after-spec : {M : Type 1} → statement M
 context-after-spec = tie.close (tie.spec returns returns-2 returns-3 returns-4 returns-5 returns-6)

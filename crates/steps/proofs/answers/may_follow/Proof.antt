@@ -1,3 +1,6 @@
+-- Made by `fill` from answers.txt: change that and fill again.
+use borrow.Author.Tests.{lt-ltb, le-ltb}
+use Rattle.steps.specs.Table.{mayFollow}
 use borrow.Author.Needs.{needs}
 use Rattle.steps.proofs.answers.may_follow.Statement.{statement}
 use Rattle.steps.proofs.answers.may_follow.Tie as tie
@@ -7,11 +10,13 @@ use Rattle.steps.proofs.answers.record_ok.Reads as record-ok-reads
 
 -- src/answers.rt:59:9
 returns : tie.Need-returns
-returns c = ?
+unfolding mayFollow
+returns c = rw (le-ltb _ _ (c .if1 .taken))
 
 -- src/answers.rt:62:9
 returns-2 : tie.Need-returns-2
-returns-2 c = ?
+unfolding mayFollow
+returns-2 c = rw (lt-ltb _ _ (c .before .if1 .left), le-ltb _ _ (c .if2 .taken))
 
 -- src/answers.rt:67:17
 mul-record-ok : tie.Need-mul-record-ok
@@ -67,7 +72,8 @@ record-ok-requires c κs = search needs
 
 -- src/answers.rt:55:1
 returns-3 : tie.Need-returns-3
-returns-3 c = ?
+unfolding mayFollow
+returns-3 c = rw (lt-ltb _ _ (c .before .before .before .before .before .if1 .left), lt-ltb _ _ (c .before .before .before .before .if2 .left), c .record-ok .ensures)
 
 pub may-follow-spec : {M : Type 1} → statement M
 may-follow-spec =

@@ -1,3 +1,6 @@
+-- Made by `fill` from answers.txt: change that and fill again.
+use borrow.Author.Tests.{lt-ltb, le-ltb}
+use Rattle.steps.specs.Table.{shapeOk}
 use borrow.Author.Needs.{needs}
 use Rattle.steps.proofs.answers.shape_ok.Statement.{statement}
 use Rattle.steps.proofs.answers.shape_ok.Tie as tie
@@ -6,7 +9,8 @@ use Rattle.steps.proofs.answers.shape_ok.Lts as lts
 
 -- src/answers.rt:49:9
 returns : tie.Need-returns
-returns c = ?
+unfolding shapeOk
+returns c = rw (lt-ltb _ _ (c .if1 .taken))
 
 -- src/answers.rt:51:39
 shared-slice-read-result : tie.Need-shared-slice-read-result
@@ -22,7 +26,8 @@ shared-slice-read-result-3 c = search needs
 
 -- src/answers.rt:44:1
 returns-2 : tie.Need-returns-2
-returns-2 c = ?
+unfolding shapeOk
+returns-2 c = rw (le-ltb _ _ (c .before .before .before .if1 .left))
 
 pub shape-ok-spec : {M : Type 1} → statement M
 shape-ok-spec =
