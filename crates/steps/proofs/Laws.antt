@@ -114,6 +114,9 @@ chain-found t i n k a b e = go (onRecord t i) refl
         let z : _≡_ {A = ℕ} 0 1 = cc in
         absurd (omega arith)
 
+pub chain-shorter : (t : List ℕ) (i : ℕ) {n k a b : ℕ} → headOf (chain t i) ≡ Record n k a b → length (chain t n) < length (chain t i)
+chain-shorter t i {n} {k} {a} {b} e = omega (arith, ap length (chain-found t i n k a b e))
+
 -- nothing found: the chain has ended
 pub chain-ended : (l : List Rec) → headOf l ≡ End → l ≡ []
 unfolding headOf

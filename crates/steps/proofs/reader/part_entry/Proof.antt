@@ -1,3 +1,6 @@
+-- Made by `fill` from answers.txt: change that and fill again.
+use mathlib.Core.Path.{_≡_, refl, sym, _∙_}
+use Rattle.steps.proofs.Parts.{message-part, fault-part, other-part}
 use borrow.Author.Needs.{needs}
 use Rattle.steps.proofs.reader.part_entry.Statement.{statement}
 use Rattle.steps.proofs.reader.part_entry.Tie as tie
@@ -16,7 +19,7 @@ same-length c = search needs
 
 -- src/reader.rt:132:9
 returns : tie.Need-returns
-returns c = ?
+returns c = c .before .before .message .ensures ∙ message-part _ _ _ _ _ _ (c .before .before .before .before .if1 .taken)
 
 -- src/reader.rt:135:34
 add-fault : tie.Need-add-fault
@@ -32,11 +35,11 @@ same-length-2 c = search needs
 
 -- src/reader.rt:135:9
 returns-2 : tie.Need-returns-2
-returns-2 c = ?
+returns-2 c = c .before .before .fault .ensures ∙ fault-part _ _ _ _ _ _ (c .before .before .before .before .before .if1 .left) (c .before .before .before .before .if2 .taken)
 
 -- src/reader.rt:119:1
 returns-3 : tie.Need-returns-3
-returns-3 c = ?
+returns-3 c = other-part _ _ _ _ _ _ (c .before .if1 .left) (c .if2 .left)
 
 pub part-entry-spec : {M : Type 1} → statement M
 part-entry-spec =
