@@ -1,0 +1,412 @@
+// Collaborative threshold decryption, after threshold_decrypt.rs.
+//
+// Shares and the ciphertext are handles; 0 stands for none. `answers`, `place`, `step` and `words` are the call's answers with the
+// place in them, and its step with the table that it is written to.
+ghost use mathlib.Core.Path.{_≡_};
+ghost use Prim.Native.Nat.{_<_};
+ghost use Rattle.steps.specs.Network.{Network};
+ghost use Rattle.steps.specs.Answers.{tapeAt};
+ghost use Rattle.steps.specs.Steps.{out};
+ghost use Rattle.steps.specs.Runs.{leaves};
+ghost use Rattle.decryption.specs.Outcomes.{leftSet, leftChecked, left};
+ghost use Rattle.decryption.specs.Decrypt.{new, isSender, countShares, setCiphertext, checkShare, removeInvalidShares, startDecryption, tryOutput, storeShare, handleMessage};
+use steps::network_info::NetworkInfo;
+use steps::reader::Answer;
+use steps::step::Step;
+
+pub struct ThresholdDecrypt {
+    pub ciphertext: u64,
+    // By sender. A table by index, for the Rust's map.
+    pub shares: [u64; 16],
+    // Whether the own share was sent.
+    pub had_input: bool,
+    // Whether the output was returned.
+    pub terminated: bool,
+}
+
+// What `set_ciphertext` comes to. `Invalid` is the caller's fault 4.
+pub enum Ciphertext {
+    Set,
+    Invalid,
+    MultipleInputs,
+    Refused,
+}
+
+pub struct Input {
+    pub td: ThresholdDecrypt,
+    pub outcome: Ciphertext,
+}
+
+// What checking shares comes to.
+pub enum Checked {
+    Done,
+    Refused,
+}
+
+pub struct Removed {
+    pub td: ThresholdDecrypt,
+    pub outcome: Checked,
+    pub step: Step,
+}
+
+// What an operation comes to: nothing yet, the output, a wanted answer that is not there, or the Rust's error `Decryption`.
+pub enum Outcome {
+    Nothing,
+    Plaintext(u64),
+    Refused,
+    Decryption,
+}
+
+pub struct Handled {
+    pub td: ThresholdDecrypt,
+    pub outcome: Outcome,
+    pub step: Step,
+}
+
+// How many shares there are.
+fn count(shares: [u64; 16]) -> usize
+    ensures { λ r. ⌜ r ≡ countShares shares ⌝ }
+{
+    let mut n: usize = 0;
+    let mut i: usize = 0;
+    while i < 16 {
+        if shares[i] != 0 {
+            n += 1;
+        }
+        i += 1;
+    }
+    n
+}
+
+impl ThresholdDecrypt {
+    // An instance that waits for shares and a ciphertext.
+    pub fn new() -> Self
+        ensures { λ r. ⌜ r ≡ new ⌝ }
+    {
+        ThresholdDecrypt {
+            ciphertext: 0,
+            shares: [0u64; 16],
+            had_input: false,
+            terminated: false,
+        }
+    }
+
+    // Whether a node is among `sender_ids`, those that sent a share.
+    pub fn is_sender(self, sender: usize) -> bool
+        requires { ⌜ sender < 16 ⌝ }
+        ensures { λ r. ⌜ r ≡ isSender self sender ⌝ }
+    {
+        self.shares[sender] != 0
+    }
+
+    // Sets the ciphertext, if there is none yet and it verifies.
+    pub fn set_ciphertext(
+        self,
+        proposer: u64,
+        ciphertext: u64,
+        answers: &[u64],
+        place: &mut usize,
+    ) -> Input
+        ensures { λ r. ⌜ leftSet r (tapeAt (now (answers .entry)) (now (place .exit))) ≡ setCiphertext proposer ciphertext self (tapeAt (now (answers .entry)) (now (place .entry))) ⌝ }
+    {
+        if self.ciphertext != 0 {
+            return Input {
+                td: self,
+                outcome: Ciphertext::MultipleInputs,
+            };
+        }
+        match steps::reader::ask_about(answers, place, 9, proposer) {
+            Answer::Got { a, b: _ } => {
+                if a == 0 {
+                    return Input {
+                        td: self,
+                        outcome: Ciphertext::Invalid,
+                    };
+                }
+                let mut td = self;
+                td.ciphertext = ciphertext;
+                Input {
+                    td,
+                    outcome: Ciphertext::Set,
+                }
+            }
+            Answer::Refused => Input {
+                td: self,
+                outcome: Ciphertext::Refused,
+            },
+        }
+    }
+
+    // Checks the share of one sender, and removes it if it is invalid.
+    fn check_share(
+        self,
+        sender: usize,
+        answers: &[u64],
+        place: &mut usize,
+        step: Step,
+        words: &mut [u64],
+    ) -> Removed
+        requires { ⌜ sender < 16 ⌝ }
+        ensures { λ r. ⌜ leftChecked r (tapeAt (now (answers .entry)) (now (place .exit))) (now (words .exit)) ≡ leaves (out step (now (words .entry))) (checkShare sender self (tapeAt (now (answers .entry)) (now (place .entry)))) ⌝ }
+    {
+        let mut td = self;
+        if td.shares[sender] == 0 {
+            return Removed {
+                td,
+                outcome: Checked::Done,
+                step,
+            };
+        }
+        match steps::reader::ask_about(answers, place, 10, sender as u64) {
+            Answer::Got { a, b: _ } => {
+                if a != 0 {
+                    return Removed {
+                        td,
+                        outcome: Checked::Done,
+                        step,
+                    };
+                }
+                td.shares[sender] = 0;
+                let faulted = step.fault(words, 7, sender as u64, 0);
+                Removed {
+                    td,
+                    outcome: Checked::Done,
+                    step: faulted,
+                }
+            }
+            Answer::Refused => Removed {
+                td,
+                outcome: Checked::Refused,
+                step,
+            },
+        }
+    }
+
+    // Removes all shares that are invalid, by rising sender, with a fault for each.
+    fn remove_invalid_shares(
+        self,
+        answers: &[u64],
+        place: &mut usize,
+        step: Step,
+        words: &mut [u64],
+    ) -> Removed
+        ensures { λ r. ⌜ leftChecked r (tapeAt (now (answers .entry)) (now (place .exit))) (now (words .exit)) ≡ leaves (out step (now (words .entry))) (removeInvalidShares self (tapeAt (now (answers .entry)) (now (place .entry)))) ⌝ }
+    {
+        let mut td = self;
+        let mut s = step;
+        let mut i: usize = 0;
+        while i < 16 {
+            let checked = td.check_share(i, answers, place, s, words);
+            let outcome = checked.outcome;
+            let Checked::Done = outcome else {
+                return checked;
+            };
+            td = checked.td;
+            s = checked.step;
+            i += 1;
+        }
+        Removed {
+            td,
+            outcome: Checked::Done,
+            step: s,
+        }
+    }
+
+    // Sends the own share, and tries to combine.
+    pub fn start_decryption(
+        self,
+        net: NetworkInfo,
+        proposer: u64,
+        answers: &[u64],
+        place: &mut usize,
+        step: Step,
+        words: &mut [u64],
+    ) -> Handled
+        requires { ⌜ Network net ⌝ }
+        ensures { λ r. ⌜ left r (tapeAt (now (answers .entry)) (now (place .exit))) (now (words .exit)) ≡ leaves (out step (now (words .entry))) (startDecryption net proposer self (tapeAt (now (answers .entry)) (now (place .entry)))) ⌝ }
+    {
+        if self.had_input {
+            return Handled {
+                td: self,
+                outcome: Outcome::Nothing,
+                step,
+            };
+        }
+        if self.ciphertext == 0 {
+            return Handled {
+                td: self,
+                outcome: Outcome::Decryption,
+                step,
+            };
+        }
+        let removed = self.remove_invalid_shares(answers, place, step, words);
+        let mut td = removed.td;
+        let done = removed.step;
+        let outcome = removed.outcome;
+        let Checked::Done = outcome else {
+            return Handled {
+                td,
+                outcome: Outcome::Refused,
+                step: done,
+            };
+        };
+        td.had_input = true;
+        if !(net.is_validator() & net.has_key) {
+            return td.try_output(net, proposer, answers, place, done, words);
+        }
+        match steps::reader::ask(answers, place, 11) {
+            Answer::Got { a: _, b } => {
+                let sent = done.message(words, 3, proposer, b);
+                let own = net.our_id;
+                td.shares[own] = b;
+                td.try_output(net, proposer, answers, place, sent, words)
+            }
+            Answer::Refused => Handled {
+                td,
+                outcome: Outcome::Refused,
+                step: done,
+            },
+        }
+    }
+
+    // Combines the shares, if there is a ciphertext and enough of them. Before that it makes sure that the own share was sent.
+    fn try_output(
+        self,
+        net: NetworkInfo,
+        proposer: u64,
+        answers: &[u64],
+        place: &mut usize,
+        step: Step,
+        words: &mut [u64],
+    ) -> Handled
+        requires { ⌜ Network net ⌝ }
+        ensures { λ r. ⌜ left r (tapeAt (now (answers .entry)) (now (place .exit))) (now (words .exit)) ≡ leaves (out step (now (words .entry))) (tryOutput net proposer self (tapeAt (now (answers .entry)) (now (place .entry)))) ⌝ }
+    {
+        if self.terminated {
+            return Handled {
+                td: self,
+                outcome: Outcome::Nothing,
+                step,
+            };
+        }
+        let shares = self.shares;
+        if count(shares) <= net.num_faulty {
+            return Handled {
+                td: self,
+                outcome: Outcome::Nothing,
+                step,
+            };
+        }
+        if self.ciphertext == 0 {
+            return Handled {
+                td: self,
+                outcome: Outcome::Nothing,
+                step,
+            };
+        }
+        let mut td = self;
+        td.terminated = true;
+        let started = td.start_decryption(net, proposer, answers, place, step, words);
+        let outcome = started.outcome;
+        let Outcome::Nothing = outcome else {
+            return started;
+        };
+        let last = started.td;
+        let done = started.step;
+        match steps::reader::ask(answers, place, 12) {
+            Answer::Got { a, b } => {
+                if a == 0 {
+                    return Handled {
+                        td: last,
+                        outcome: Outcome::Decryption,
+                        step: done,
+                    };
+                }
+                Handled {
+                    td: last,
+                    outcome: Outcome::Plaintext(b),
+                    step: done,
+                }
+            }
+            Answer::Refused => Handled {
+                td: last,
+                outcome: Outcome::Refused,
+                step: done,
+            },
+        }
+    }
+
+    // Keeps a share. A second one of a sender overwrites the first, and nothing is combined.
+    fn store_share(
+        self,
+        net: NetworkInfo,
+        proposer: u64,
+        sender: usize,
+        share: u64,
+        answers: &[u64],
+        place: &mut usize,
+        step: Step,
+        words: &mut [u64],
+    ) -> Handled
+        requires { ⌜ Network net × (sender < net .«num_nodes») ⌝ }
+        ensures { λ r. ⌜ left r (tapeAt (now (answers .entry)) (now (place .exit))) (now (words .exit)) ≡ leaves (out step (now (words .entry))) (storeShare net proposer sender share self (tapeAt (now (answers .entry)) (now (place .entry)))) ⌝ }
+    {
+        let mut td = self;
+        let old = td.shares[sender];
+        td.shares[sender] = share;
+        if old != 0 {
+            let faulted = step.fault(words, 6, sender as u64, 0);
+            return Handled {
+                td,
+                outcome: Outcome::Nothing,
+                step: faulted,
+            };
+        }
+        td.try_output(net, proposer, answers, place, step, words)
+    }
+
+    // Handles a share that this sender sent. The caller has refused an unknown sender.
+    pub fn handle_message(
+        self,
+        net: NetworkInfo,
+        proposer: u64,
+        sender: usize,
+        share: u64,
+        answers: &[u64],
+        place: &mut usize,
+        step: Step,
+        words: &mut [u64],
+    ) -> Handled
+        requires { ⌜ Network net × (sender < net .«num_nodes») ⌝ }
+        ensures { λ r. ⌜ left r (tapeAt (now (answers .entry)) (now (place .exit))) (now (words .exit)) ≡ leaves (out step (now (words .entry))) (handleMessage net proposer sender share self (tapeAt (now (answers .entry)) (now (place .entry)))) ⌝ }
+    {
+        if self.terminated {
+            return Handled {
+                td: self,
+                outcome: Outcome::Nothing,
+                step,
+            };
+        }
+        if self.ciphertext == 0 {
+            return self.store_share(net, proposer, sender, share, answers, place, step, words);
+        }
+        match steps::reader::ask_about(answers, place, 10, sender as u64) {
+            Answer::Got { a, b: _ } => {
+                if a == 0 {
+                    let faulted = step.fault(words, 7, sender as u64, 0);
+                    return Handled {
+                        td: self,
+                        outcome: Outcome::Nothing,
+                        step: faulted,
+                    };
+                }
+                self.store_share(net, proposer, sender, share, answers, place, step, words)
+            }
+            Answer::Refused => Handled {
+                td: self,
+                outcome: Outcome::Refused,
+                step,
+            },
+        }
+    }
+}
