@@ -1,0 +1,7 @@
+-- What is proved of the definitions, for this crate's proofs and for those above it.
+pub mod Ends
+pub mod Laws
+pub mod Cycle
+pub mod Messages
+pub mod Reading
+pub mod Errors
