@@ -23,11 +23,11 @@ use Rattle.decryption.proofs.Ends.{Ends, ends-cond, ends-heard, ends-on
 use Rattle.decryption.proofs.Laws.{unset}
 
 -- what starting and combining do of an instance and the answers
-abbrev Does : Type 0
+abbrev pub Does : Type 0
 Does = ThresholdDecrypt → Tape → Run ThresholdDecrypt (Option ℕ)
 
 -- two ways on that agree where they are taken
-cond-cong : {A : Type 0} (x : Bool) {a b c d : A} → a ≡ b → c ≡ d → cond x a c ≡ cond x b d
+pub cond-cong : {A : Type 0} (x : Bool) {a b c d : A} → a ≡ b → c ≡ d → cond x a c ≡ cond x b d
 cond-cong true p q = p
 cond-cong false p q = q
 
