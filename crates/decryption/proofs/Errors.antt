@@ -31,6 +31,10 @@ set-has proposer c td p =
     (ends-heard (HasSet c) (askAbout p 9 proposer) td _ (λ e. cc) (λ a b q. ends-cond (HasSet c) (eqb a 0) _ _ (λ e. cc) (λ e. refl)))
     (λ e. cc)
 
+-- a run ends with this ciphertext
+abbrev Has : {A : Type 0} → ℕ → ThresholdDecrypt → Verdict A → Type 0
+Has c td v = td .ciphertext ≡ c
+
 module _ (net : NetworkInfo) (proposer : ℕ) where
   -- with a ciphertext a start comes past the test for it
   pub start-has : (td : ThresholdDecrypt) (p : Tape) → (td .ciphertext ≡ 0 → ⊥) → startDecryption net proposer td p
@@ -56,6 +60,58 @@ module _ (net : NetworkInfo) (proposer : ℕ) where
       go : (x : Bool) → eqb (td .ciphertext) 0 ≡ x → cond x (ends (going none) td p) (onward (f (withEnd td) p) (λ _ td q. k td q)) ≡ cond x (ends (going none) td p) (onward (g (withEnd td) p) (λ _ td q. k td q))
       go true e = refl
       go false e = ap (λ r. onward r (λ _ td q. k td q)) (h (withEnd td) p (eqb-false _ _ e))
+
+  -- nothing takes the ciphertext away
+  abbrev Keeps : Does → Type 0
+  Keeps k = (c : ℕ) (td : ThresholdDecrypt) (p : Tape) → td .ciphertext ≡ c → k td p .state .ciphertext ≡ c
+
+  own-keeps : (k : Does) → Keeps k → Keeps (ownShare net proposer k)
+  unfolding ownShare
+  own-keeps k h c td p e =
+      ends-cond (Has c) (isValidator net && net .«has_key») _ _
+      (ends-heard (Has c) (ask p 11) td _ e (λ a b q. h c _ q e))
+      (h c td p e)
+
+  start-on : (k : Does) → Keeps k → Keeps (startWith net proposer k)
+  unfolding startWith
+  start-on k h c td p e =
+      let r : removeInvalidShares td p .state .ciphertext ≡ c = remove-keeps (λ s. s .ciphertext ≡ c) (λ s l n. n) 16 0 td p e in
+      ends-cond (Has c) (td .«had_input») _ _ e
+      (ends-cond (Has c) (eqb (td .ciphertext) 0) _ _ e
+      (ends-onward (Has c) (removeInvalidShares td p) _ (λ _. r) (λ m _. r) (λ _ _. own-keeps k h c _ _ r)))
+
+  combine-keeps : Keeps (combine net proposer)
+  unfolding combine
+  combine-keeps c td p e = ends-heard (Has c) (ask p 12) td _ e (λ a b q. ends-cond (Has c) (eqb a 0) _ _ e e)
+
+  try-on : (k : Does) → Keeps k → Keeps (tryWith net proposer k)
+  unfolding tryWith
+  try-on k h c td p e =
+      let r : k (withEnd td) p .state .ciphertext ≡ c = h c (withEnd td) p e in
+      ends-cond (Has c) (td .terminated) _ _ e
+      (ends-cond (Has c) (leb (countShares (td .shares)) (net .«num_faulty»)) _ _ e
+      (ends-cond (Has c) (eqb (td .ciphertext) 0) _ _ e
+      (ends-onward (Has c) (k (withEnd td) p) _ (λ _. r) (λ m _. r) (λ _ _. combine-keeps c _ _ r))))
+
+  pub start-keeps : (td : ThresholdDecrypt) (p : Tape) → startDecryption net proposer td p .state .ciphertext ≡ td .ciphertext
+  unfolding startDecryption
+  start-keeps td p = start-on _ (try-on _ (λ c td p e. e)) _ td p refl
+
+  pub try-keeps : (td : ThresholdDecrypt) (p : Tape) → tryOutput net proposer td p .state .ciphertext ≡ td .ciphertext
+  unfolding tryOutput
+  try-keeps td p = try-on _ (start-on _ (λ c td p e. e)) _ td p refl
+
+  pub store-keeps : (sender share : ℕ) (td : ThresholdDecrypt) (p : Tape) → storeShare net proposer sender share td p .state .ciphertext ≡ td .ciphertext
+  unfolding storeShare
+  store-keeps sender share td p = ends-cond (Has (td .ciphertext)) (eqb (getD (td .shares) sender 0) 0) _ _ (try-keeps _ p) refl
+
+  pub handle-keeps : (sender share : ℕ) (td : ThresholdDecrypt) (p : Tape) → handleMessage net proposer sender share td p .state .ciphertext ≡ td .ciphertext
+  unfolding handleMessage
+  handle-keeps sender share td p =
+      let H = Has (td .ciphertext) in
+      ends-cond H (td .terminated) _ _ refl
+      (ends-cond H (eqb (td .ciphertext) 0) _ _ (store-keeps sender share td p)
+      (ends-heard H (askAbout p 10 sender) td _ refl (λ a b q. ends-cond H (eqb a 0) _ _ refl (store-keeps sender share td q))))
 
 -- A DUPLICATE SHARE COMBINES NOTHING. It overwrites the first and is fault 6, and nothing is asked but whether it is valid
 module _ (net : NetworkInfo) (proposer sender share : ℕ) (td : ThresholdDecrypt) (p : Tape) (e : td .terminated ≡ false) (s : isSender td sender ≡ true) where
@@ -113,9 +169,9 @@ module _ (net : NetworkInfo) (proposer : ℕ) where
       (ends-heard (Fails 24) (ask p 11) td _ (fails-refused 24) (λ a b q. h _ q))
       (h td p)
 
-  with-start : (k : Does) → Fails24 k → Fails24 (startWith net proposer k)
+  start-with : (k : Does) → Fails24 k → Fails24 (startWith net proposer k)
   unfolding startWith
-  with-start k h td p =
+  start-with k h td p =
       ends-cond (Fails 24) (td .«had_input») _ _ (fails-going 24 none)
       (ends-cond (Fails 24) (eqb (td .ciphertext) 0) _ _ (fails-failed 24)
       (ends-onward (Fails 24) (removeInvalidShares td p) _ (λ e. fails-refused 24) (λ m e. absurd (remove-fails td p m e)) (λ _ e. own-fails k h _ _)))
@@ -124,9 +180,9 @@ module _ (net : NetworkInfo) (proposer : ℕ) where
   unfolding combine
   combine-fails td p = ends-heard (Fails 24) (ask p 12) td _ (fails-refused 24) (λ a b q. ends-cond (Fails 24) (eqb a 0) _ _ (fails-failed 24) (fails-going 24 (some b)))
 
-  with-try : (k : Does) → Fails24 k → Fails24 (tryWith net proposer k)
+  try-with : (k : Does) → Fails24 k → Fails24 (tryWith net proposer k)
   unfolding tryWith
-  with-try k h td p =
+  try-with k h td p =
       ends-cond (Fails 24) (td .terminated) _ _ (fails-going 24 none)
       (ends-cond (Fails 24) (leb (countShares (td .shares)) (net .«num_faulty»)) _ _ (fails-going 24 none)
       (ends-cond (Fails 24) (eqb (td .ciphertext) 0) _ _ (fails-going 24 none)
@@ -134,11 +190,11 @@ module _ (net : NetworkInfo) (proposer : ℕ) where
 
   pub start-fails : (td : ThresholdDecrypt) (p : Tape) (m : ℕ) → startDecryption net proposer td p .verdict ≡ failed m → m ≡ 24
   unfolding startDecryption
-  start-fails td p = with-start _ (with-try _ (λ td p. fails-going 24 none)) td p
+  start-fails td p = start-with _ (try-with _ (λ td p. fails-going 24 none)) td p
 
   pub try-fails : (td : ThresholdDecrypt) (p : Tape) (m : ℕ) → tryOutput net proposer td p .verdict ≡ failed m → m ≡ 24
   unfolding tryOutput
-  try-fails td p = with-try _ (with-start _ (λ td p. fails-going 24 none)) td p
+  try-fails td p = try-with _ (start-with _ (λ td p. fails-going 24 none)) td p
 
   pub store-fails : (sender share : ℕ) (td : ThresholdDecrypt) (p : Tape) (m : ℕ) → storeShare net proposer sender share td p .verdict ≡ failed m → m ≡ 24
   unfolding storeShare
