@@ -6,7 +6,7 @@ use mathlib.Core.Bool.{Bool, true, false, cond, _&&_}
 use mathlib.Core.Option.{Option, none, some}
 use native.Mathlib.Omega.{arith}
 use lib.ListN.{getD, set}
-use lib.Dec.{leb, eqb}
+use lib.Dec.{eqb}
 use borrow.Author.Tests.{ltb-true, le-leb, lt-leb, eq-eqb, ne-eqb}
 use Rattle.steps.specs.declared.network_info.NetworkInfo.{NetworkInfo}
 use Rattle.steps.specs.declared.reader.Answer.{Answer}

@@ -1,13 +1,13 @@
 -- The Rust's errors: `CiphertextIsNone` cannot arise, a duplicate share combines nothing, and 24 and 25 are the only failures. Assumes nothing.
 use Prim.Native.Nat.{ℕ, zero, suc, _+_}
 use mathlib.Core.Path.{_≡_, refl, sym, ap, _∙_}
-use mathlib.Core.List.{List, [], _∷_}
+use mathlib.Core.List.{[], _∷_}
 use mathlib.Core.Bool.{Bool, true, false, cond, _&&_}
 use mathlib.Core.Option.{Option, none, some}
 use native.Mathlib.Omega.{arith}
 use lib.ListN.{getD, set}
 use lib.Dec.{leb, eqb}
-use borrow.Author.Tests.{eqb-false, not-true, ne-eqb}
+use borrow.Author.Tests.{eqb-false, not-true}
 use Rattle.steps.specs.declared.network_info.NetworkInfo.{NetworkInfo}
 use Rattle.steps.specs.declared.reader.Answer.the-variants.{Got}
 use Rattle.steps.specs.Network.{isValidator}
@@ -30,6 +30,10 @@ set-has proposer c td p =
     ends-cond (HasSet c) (eqb (td .ciphertext) 0) _ _
     (ends-heard (HasSet c) (askAbout p 9 proposer) td _ (λ e. cc) (λ a b q. ends-cond (HasSet c) (eqb a 0) _ _ (λ e. cc) (λ e. refl)))
     (λ e. cc)
+
+-- which is one: 0 stands for none
+pub set-some : (proposer c : ℕ) (td : ThresholdDecrypt) (p : Tape) → (c ≡ 0 → ⊥) → setCiphertext proposer c td p .verdict ≡ going true → setCiphertext proposer c td p .state .ciphertext ≡ 0 → ⊥
+set-some proposer c td p n e z = n (sym (set-has proposer c td p e) ∙ z)
 
 -- a run ends with this ciphertext
 abbrev Has : {A : Type 0} → ℕ → ThresholdDecrypt → Verdict A → Type 0

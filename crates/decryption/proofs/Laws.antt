@@ -1,12 +1,11 @@
 -- Counting, setting the ciphertext and checking shares, case by case. Assumes nothing.
-use Prim.Native.Nat.{ℕ, zero, suc, _+_, _-_, _<_, _≤_}
+use Prim.Native.Nat.{ℕ, suc, _+_, _-_, _<_, _≤_}
 use native.Mathlib.Omega.{arith}
-use mathlib.Core.Path.{_≡_, refl, sym, ap, _∙_}
+use mathlib.Core.Path.{_≡_, refl, _∙_}
 use mathlib.Core.List.{List, [], _∷_}
-use mathlib.Core.Bool.{Bool, true, false, cond}
-use mathlib.Core.Option.{Option, none, some}
+use mathlib.Core.Bool.{true, false, cond}
+use mathlib.Core.Option.{none}
 use lib.ListN.{getD, set}
-use lib.Dec.{eqb}
 use borrow.Author.Tests.{eq-eqb, ne-eqb}
 use types.Run.{OneOf, miss}
 use denote.Enum.Declared.{tagOf}
@@ -14,7 +13,7 @@ use Rattle.steps.specs.declared.reader.Answer.{Answer}
 use Rattle.steps.specs.declared.reader.Answer.the-variants.{Got, Refused as NoAnswer}
 use Rattle.steps.specs.Answers.{Tape, asked, askAbout}
 use Rattle.steps.specs.Steps.{Out, putEntry, putAll, fault}
-use Rattle.steps.specs.Runs.{Verdict, going, refused, failed, Run, ends, onward, leaves}
+use Rattle.steps.specs.Runs.{Verdict, going, refused, failed, ends, onward, leaves}
 use Rattle.steps.proofs.Runs.{heard-got, heard-none}
 use Rattle.decryption.specs.Outcomes.{checkedVerdict, verdict}
 use Rattle.decryption.specs.Decrypt.{withCiphertext, withShares, countFrom, setCiphertext, checkShare, removeFrom}

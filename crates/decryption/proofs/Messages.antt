@@ -1,9 +1,9 @@
 -- A share that arrives, case by case. Assumes nothing.
 use Prim.Native.Nat.{ℕ}
-use mathlib.Core.Path.{_≡_, refl, sym, ap, _∙_}
-use mathlib.Core.List.{List, [], _∷_}
-use mathlib.Core.Bool.{Bool, true, false, cond}
-use mathlib.Core.Option.{Option, none, some}
+use mathlib.Core.Path.{_≡_, _∙_}
+use mathlib.Core.List.{[], _∷_}
+use mathlib.Core.Bool.{true, false}
+use mathlib.Core.Option.{Option, none}
 use lib.ListN.{getD, set}
 use borrow.Author.Tests.{eq-eqb, ne-eqb}
 use Rattle.steps.specs.declared.network_info.NetworkInfo.{NetworkInfo}
@@ -11,7 +11,7 @@ use Rattle.steps.specs.declared.reader.Answer.{Answer}
 use Rattle.steps.specs.declared.reader.Answer.the-variants.{Got, Refused as NoAnswer}
 use Rattle.steps.specs.Answers.{Tape, asked, askAbout}
 use Rattle.steps.specs.Steps.{Out, putEntry, putAll, fault}
-use Rattle.steps.specs.Runs.{going, refused, Run, ends, before, leaves}
+use Rattle.steps.specs.Runs.{going, refused, ends, before, leaves}
 use Rattle.steps.proofs.Runs.{heard-got, heard-none}
 use Rattle.decryption.specs.Decrypt.{withShares, tryOutput, storeShare, handleMessage}
 use Rattle.decryption.specs.declared.ThresholdDecrypt.{ThresholdDecrypt}

@@ -1,17 +1,16 @@
 -- Every operation reads a first part of the chain, and stands behind it afterwards. Assumes nothing.
 use Prim.Native.Nat.{ℕ, zero, suc, _+_}
-use mathlib.Core.List.{List, [], _∷_}
-use mathlib.Core.Bool.{Bool, true, false, cond, _&&_}
-use mathlib.Core.Option.{Option, none, some}
+use mathlib.Core.Bool.{_&&_}
 use lib.ListN.{getD, set}
 use lib.Dec.{leb, eqb}
 use Rattle.steps.specs.declared.network_info.NetworkInfo.{NetworkInfo}
 use Rattle.steps.specs.Network.{isValidator}
-use Rattle.steps.specs.Answers.{Tape, ask, askAbout}
+use Rattle.steps.specs.Answers.{Tape}
 use Rattle.steps.specs.Runs.{Run}
 use Rattle.steps.proofs.Reading.{Later, later-same, later-ask, later-about, by-cond, by-heard, by-onward}
 use Rattle.decryption.specs.Decrypt.{withShares, withInput, withEnd, countShares, setCiphertext, checkShare, removeFrom, ownShare, startWith, combine, tryWith, startDecryption, tryOutput, storeShare, handleMessage}
 use Rattle.decryption.specs.declared.ThresholdDecrypt.{ThresholdDecrypt}
+use Rattle.decryption.proofs.Cycle.{Does}
 
 -- an operation that reads a first part of the answers
 abbrev pub Reads : {A : Type 0} → (ThresholdDecrypt → Tape → Run ThresholdDecrypt A) → Type 0
@@ -36,14 +35,14 @@ remove-reads zero i td p = later-same p
 remove-reads (suc n) i td p = by-onward p _ _ (check-reads i td p) (λ _ td q. remove-reads n (i + 1) td q)
 
 module _ (net : NetworkInfo) (proposer : ℕ) where
-  own-reads : (k : ThresholdDecrypt → Tape → Run ThresholdDecrypt (Option ℕ)) → Reads k → Reads (ownShare net proposer k)
+  own-reads : (k : Does) → Reads k → Reads (ownShare net proposer k)
   unfolding ownShare
   own-reads k h td p =
       by-cond (isValidator net && net .«has_key») p _ _
       (by-heard p _ td _ (later-ask p 11) (λ a b u. h (withShares td (set (td .shares) (net .«our_id») b)) u))
       (h td p)
 
-  with-start : (k : ThresholdDecrypt → Tape → Run ThresholdDecrypt (Option ℕ)) → Reads k → Reads (startWith net proposer k)
+  with-start : (k : Does) → Reads k → Reads (startWith net proposer k)
   unfolding startWith
   with-start k h td p =
       by-cond (td .«had_input») p _ _ (later-same p)
@@ -54,7 +53,7 @@ module _ (net : NetworkInfo) (proposer : ℕ) where
   unfolding combine
   combine-reads td p = by-heard p _ td _ (later-ask p 12) (λ a b u. by-cond (eqb a 0) u _ _ (later-same u) (later-same u))
 
-  with-try : (k : ThresholdDecrypt → Tape → Run ThresholdDecrypt (Option ℕ)) → Reads k → Reads (tryWith net proposer k)
+  with-try : (k : Does) → Reads k → Reads (tryWith net proposer k)
   unfolding tryWith
   with-try k h td p =
       by-cond (td .terminated) p _ _ (later-same p)

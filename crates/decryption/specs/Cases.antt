@@ -2,14 +2,14 @@
 use Prim.Native.Nat.{ℕ}
 use mathlib.Core.Path.{_≡_, refl}
 use mathlib.Core.List.{List, [], _∷_}
-use mathlib.Core.Bool.{Bool, true, false}
-use mathlib.Core.Option.{Option, none, some}
+use mathlib.Core.Bool.{true, false}
+use mathlib.Core.Option.{none, some}
 use lib.ListN.{set, replicate}
 use Rattle.steps.specs.declared.network_info.NetworkInfo.{NetworkInfo}
-use Rattle.steps.specs.Answers.{Rec, tape, link, recAt, onRecord, walk, chain, tapeAt, askFor, ask, askAbout}
+use Rattle.steps.specs.Answers.{tape, link, recAt, onRecord, walk, chain, tapeAt, askFor, ask, askAbout}
 use Rattle.steps.specs.Steps.{message, fault}
-use Rattle.steps.specs.Runs.{going, refused, failed, Run, ends, before, onwardAs, onward, heardAs, heard}
-use Rattle.decryption.specs.Decrypt.{new, withCiphertext, withShares, withInput, withEnd, countFrom, setCiphertext, checkShare, removeFrom, ownShare, startWith, combine, tryWith, startDecryption, tryOutput, storeShare, handleMessage}
+use Rattle.steps.specs.Runs.{going, refused, failed, ends, before, onwardAs, onward, heardAs, heard}
+use Rattle.decryption.specs.Decrypt.{new, withCiphertext, withEnd, countFrom, setCiphertext, checkShare, removeFrom, ownShare, startWith, combine, tryWith, startDecryption, tryOutput, storeShare, handleMessage}
 use Rattle.decryption.specs.declared.ThresholdDecrypt.{ThresholdDecrypt}
 
 -- four nodes, f 1

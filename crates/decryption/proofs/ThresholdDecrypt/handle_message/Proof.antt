@@ -1,5 +1,5 @@
 -- Made by `fill` from answers.txt: change that and fill again.
-use mathlib.Core.Path.{_≡_, sym, ap, _∙_}
+use mathlib.Core.Path.{sym, ap, _∙_}
 use borrow.Author.Needs.{needs}
 use Rattle.steps.specs.Steps.{putAll}
 use Rattle.steps.specs.Runs.{leaves}
