@@ -3,3 +3,5 @@ pub mod Runs
 pub mod Parts
 pub mod Reading
 pub mod Chain
+pub mod Counting
+pub mod Finished
