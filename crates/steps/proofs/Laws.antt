@@ -81,7 +81,7 @@ walk-more (suc n) t i h = go (onRecord t i) refl (linked n t i h (λ u. walk-mor
     go true e r = walk-on (suc n) t i e ∙ ap (λ rs. recAt t i ∷ rs) r ∙ sym (walk-on n t i e)
 
 -- THE BRIDGE. On a record the chain is that record and the chain from its link on; elsewhere it is empty
-chain-on : (t : List ℕ) (i : ℕ) → onRecord t i ≡ true → chain t i ≡ recAt t i ∷ chain t (link t i)
+pub chain-on : (t : List ℕ) (i : ℕ) → onRecord t i ≡ true → chain t i ≡ recAt t i ∷ chain t (link t i)
 unfolding chain
 chain-on t i e = go (on-bounds t i e) (length t) (omega arith)
   where
@@ -89,7 +89,7 @@ chain-on t i e = go (on-bounds t i e) (length t) (omega arith)
     go b zero h = absurd (omega arith)
     go b (suc n) h = walk-on n t i e ∙ ap (λ rs. recAt t i ∷ rs) (sym (linked n t i (omega arith) (λ u. walk-more n t (link t i) u)))
 
-chain-off : (t : List ℕ) (i : ℕ) → onRecord t i ≡ false → chain t i ≡ []
+pub chain-off : (t : List ℕ) (i : ℕ) → onRecord t i ≡ false → chain t i ≡ []
 unfolding chain
 chain-off t i e = walk-off (length t) t i e
 

@@ -5,3 +5,4 @@ pub mod Reading
 pub mod Chain
 pub mod Counting
 pub mod Finished
+pub mod ReadBack
