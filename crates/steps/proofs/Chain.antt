@@ -1,13 +1,13 @@
 -- How the rule for answer tables unrolls along the chain, and what a record that may follow has. Assumes nothing.
-use mathlib.Core.Path.{_≡_, refl, sym, _∙_}
-use mathlib.Core.Bool.{Bool, true, false, cond, _&&_, false≢true}
+use mathlib.Core.Path.{_≡_, refl}
+use mathlib.Core.Bool.{Bool, true, false, cond, false≢true}
 use mathlib.Core.List.{List}
 use Prim.Native.Nat.{ℕ, zero, suc, _+_, _-_, _*_, _/_, _≤_, _<_}
 use native.Mathlib.Omega.{arith}
 use lib.ListN.{length, getD}
-use lib.Dec.{eqb, ltb, leb}
+use lib.Dec.{ltb}
 use borrow.Author.Tests.{eq-eqb, ne-eqb, ltb-true, ltb-false}
-use Rattle.steps.specs.Table.{recordOk, mayFollow, chainOk, contextAfter, word, shapeOk}
+use Rattle.steps.specs.Table.{mayFollow, chainOk, contextAfter, word, shapeOk}
 use Rattle.steps.proofs.Laws.{and-true}
 
 -- a table of the right shape has its first four words

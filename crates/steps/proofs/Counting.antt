@@ -1,13 +1,13 @@
 -- What a first run counts: the lengths of the three lists, up to 2^32 each, whatever the words. Assumes nothing.
-use Prim.Native.Nat.{ℕ, zero, suc, _+_, _≤_, _<_, min}
-use mathlib.Core.Path.{_≡_, refl, sym, ap, _∙_}
+use Prim.Native.Nat.{ℕ, suc, _+_, _≤_, _<_, min}
+use mathlib.Core.Path.{_≡_, refl, ap, _∙_}
 use mathlib.Core.List.{List, [], _∷_}
 use mathlib.Core.Bool.{Bool, true, false, cond}
 use native.Mathlib.Omega.{arith}
 use native.Mathlib.Nat.{zero-add, add-zero}
 use lib.ListN.{length}
 use lib.Dec.{leb}
-use borrow.Author.Tests.{leb-true, leb-false}
+use borrow.Author.Tests.{leb-true, leb-false, le-leb, lt-leb}
 use Rattle.steps.specs.declared.step.Chain.{Chain}
 use Rattle.steps.specs.declared.step.Step.{Step}
 use Rattle.steps.specs.Steps.{Entry, message, fault, output, messages, faults, outputs, out, advance, putAt, putEntry, putAll, counting, Counted, records}
@@ -84,3 +84,11 @@ module _ (l : List Entry) (w : List ℕ) where
 
   pub records-counted : length l < 4294967296 → records (putAll (out counting w) l .step) ≡ 1 + length l
   records-counted h = rw (counts-exact h) (omega (arith, lists-length l))
+
+  -- so that a table of at most 2^32 records can take what was counted where it can take the log
+  pub records-test : (room : ℕ) → room ≤ 4294967296 → leb (records (putAll (out counting w) l .step)) room ≡ leb (1 + length l) room
+  records-test room h = rw counts (go (leb (1 + length l) room) refl)
+    where
+      go : (x : Bool) → leb (1 + length l) room ≡ x → leb (records (countedOf l)) room ≡ x
+      go true e = le-leb (records (countedOf l)) room (omega (arith, lists-length l, leb-true (1 + length l) room e))
+      go false e = lt-leb (records (countedOf l)) room (omega (arith, lists-length l, leb-false (1 + length l) room e))

@@ -1,20 +1,17 @@
 -- What a second run writes is the finished step. Assumes nothing.
-use Prim.Native.Nat.{ℕ, zero, suc, _+_, _*_, _/_, _≤_, _<_}
+use Prim.Native.Nat.{ℕ, suc, _+_, _*_, _/_, _≤_, _<_}
 use mathlib.Core.Path.{_≡_, refl, sym, ap, _∙_}
-use mathlib.Core.List.{List, [], _∷_, _++_, append-assoc}
-use mathlib.Core.Bool.{Bool, true, false, cond}
+use mathlib.Core.List.{List, [], _∷_, _++_}
 use native.Mathlib.Omega.{arith}
-use native.Mathlib.Nat.{zero-add, add-zero}
-use native.Mathlib.Numerals.{add-one}
-use lib.ListN.{length, set, take, drop, length-append, length-set}
+use native.Mathlib.Nat.{add-zero}
+use lib.ListN.{length, set, drop, length-append}
 use lib.Seq.{sets, length-sets, sets-eq, set-comm}
-use lib.Dec.{eqb}
 use borrow.Author.Tests.{eq-eqb, ne-eqb, lt-leb, lt-ltb}
 use Rattle.steps.specs.declared.step.Chain.{Chain}
 use Rattle.steps.specs.declared.step.Step.{Step}
-use Rattle.steps.specs.Steps.{Entry, message, fault, output, Item, messages, faults, outputs, chained, linkAfter, chainWords, firstAt, laidOut, stepWords, written, writtenFailed, out, nextOf, advance, putAt, putEntry, putAll, counting, starting, firstOf, putHeader}
+use Rattle.steps.specs.Steps.{Entry, message, fault, output, Item, messages, faults, outputs, chained, linkAfter, chainWords, firstAt, laidOut, stepWords, written, writtenFailed, out, nextOf, advance, putAt, putAll, counting, starting, records, firstOf, putHeader}
 use Rattle.steps.proofs.Laws.{message-put, fault-put, output-put}
-use Rattle.steps.proofs.Counting.{exactOf, counts-exact, lists-length}
+use Rattle.steps.proofs.Counting.{exactOf, counts-exact, records-few, records-counted, lists-length}
 
 -- RUNS OF STORES. A store before a run of them is the same behind it, and so is a run
 set-sets : (ys w : List ℕ) (i j a : ℕ) → i < j → sets (set w i a) j ys ≡ set (sets w j ys) i a
@@ -96,8 +93,8 @@ put-lists (fault k x y ∷ l) w m me f fe u ue a b c p q r h =
     ap (λ o. putAll o l .words) (sym (fault-put (standing m me f fe u ue) w v (at (f + 1) fe) k x y (put-one w f fe k x y (faults l) b (omega arith) (omega arith))))
     ∙ put-lists l v m me (f + 1) fe u ue a (omega arith) c (omega arith) q (omega arith) h
     ∙ ap (λ z. sets z (u * 4) (chainWords u (outputs l)))
-        (ap (λ z. sets z ((f + 1) * 4) (chainWords (f + 1) (faults l))) (sym (sets-comm ms four′ w (m * 4) (f * 4) (omega (arith, chain-length m (messages l)))))
-        ∙ join (sets w (m * 4) ms) f four′ (chainWords (f + 1) (faults l)) refl)
+    (ap (λ z. sets z ((f + 1) * 4) (chainWords (f + 1) (faults l))) (sym (sets-comm ms four′ w (m * 4) (f * 4) (omega (arith, chain-length m (messages l)))))
+    ∙ join (sets w (m * 4) ms) f four′ (chainWords (f + 1) (faults l)) refl)
 put-lists (output k x y ∷ l) w m me f fe u ue a b c p q r h =
     let four′ = four u (outputs l) k x y in
     let v = sets w (u * 4) four′ in
@@ -107,8 +104,8 @@ put-lists (output k x y ∷ l) w m me f fe u ue a b c p q r h =
     ap (λ o. putAll o l .words) (sym (output-put (standing m me f fe u ue) w v (at (u + 1) ue) k x y (put-one w u ue k x y (outputs l) c (omega arith) (omega arith))))
     ∙ put-lists l v m me f fe (u + 1) ue a b (omega arith) p (omega arith) (omega arith) h
     ∙ ap (λ z. sets z ((u + 1) * 4) (chainWords (u + 1) (outputs l)))
-        (ap (λ z. sets z (f * 4) fs) (sym (sets-comm ms four′ w (m * 4) (u * 4) (omega (arith, chain-length m (messages l)))))
-        ∙ sym (sets-comm fs four′ (sets w (m * 4) ms) (f * 4) (u * 4) (omega (arith, chain-length f (faults l)))))
+    (ap (λ z. sets z (f * 4) fs) (sym (sets-comm ms four′ w (m * 4) (u * 4) (omega (arith, chain-length m (messages l)))))
+    ∙ sym (sets-comm fs four′ (sets w (m * 4) ms) (f * 4) (u * 4) (omega (arith, chain-length f (faults l)))))
     ∙ join (sets (sets w (m * 4) ms) (f * 4) fs) u four′ (chainWords (u + 1) (outputs l)) refl
 
 -- THE FINISHED STEP. Its length, with the header
@@ -123,7 +120,7 @@ step-length l epoch = omega (arith, laid-length (messages l) (faults l) (outputs
 -- the records from index 1 on are one run of stores
 lists-words : (l : List Entry) (w : List ℕ) → length l < 4294967296 → 1 + length l ≤ length w / 4
     → putAll (out (starting (exactOf l)) w) l .words
-      ≡ sets w 4 (chainWords 1 (messages l) ++ (chainWords (1 + length (messages l)) (faults l) ++ chainWords (1 + length (messages l) + length (faults l)) (outputs l)))
+    ≡ sets w 4 (chainWords 1 (messages l) ++ (chainWords (1 + length (messages l)) (faults l) ++ chainWords (1 + length (messages l) + length (faults l)) (outputs l)))
 lists-words l w h g =
     let n = lists-length l in
     let f = 1 + length (messages l) in
@@ -135,7 +132,7 @@ lists-words l w h g =
 -- the header's four words before a run of stores
 header-first : (w vs : List ℕ) (s : Step) (epoch : ℕ) → 4 + length vs ≤ length w
     → putHeader (sets w 4 vs) s epoch
-      ≡ (firstOf (s .messages) ∷ firstOf (s .faults) ∷ firstOf (s .outputs) ∷ epoch ∷ vs) ++ drop (4 + length vs) w
+    ≡ (firstOf (s .messages) ∷ firstOf (s .faults) ∷ firstOf (s .outputs) ∷ epoch ∷ vs) ++ drop (4 + length vs) w
 unfolding putHeader
 header-first w vs s epoch h =
     let hs = firstOf (s .messages) ∷ firstOf (s .faults) ∷ firstOf (s .outputs) ∷ epoch ∷ [] in
@@ -157,6 +154,13 @@ finished-exact l w epoch h g =
 pub finished : (l : List Entry) (v w : List ℕ) (epoch : ℕ) → length l < 4294967296 → 1 + length l ≤ length w / 4
     → putHeader (putAll (out (starting (putAll (out counting v) l .step)) w) l .words) (starting (putAll (out counting v) l .step)) epoch ≡ written w l epoch
 finished l v w epoch h g = rw (counts-exact l v h) (finished-exact l w epoch h g)
+
+-- the same from a test of the count, where the table is of at most 2^32 records
+pub finished-fits : (l : List Entry) (v w : List ℕ) (epoch : ℕ) → records (putAll (out counting v) l .step) ≤ length w / 4 → length w / 4 ≤ 4294967296
+    → putHeader (putAll (out (starting (putAll (out counting v) l .step)) w) l .words) (starting (putAll (out counting v) l .step)) epoch ≡ written w l epoch
+finished-fits l v w epoch h g =
+    let few : length l < 4294967296 = records-few l v (omega arith) in
+    finished l v w epoch few (omega (arith, records-counted l v few))
 
 -- the header of a failed call
 pub finished-failed : (w : List ℕ) (epoch : ℕ) → 4 ≤ length w → putHeader w counting epoch ≡ writtenFailed w epoch

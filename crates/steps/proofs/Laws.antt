@@ -6,15 +6,13 @@ use mathlib.Core.List.{List, [], _∷_, _++_}
 use Rattle.steps.specs.Steps.{Entry, message, fault, output, Out, out, Chained, chained, advance, putAt, putEntry, putAll}
 use Rattle.steps.specs.declared.step.Chain.{Chain}
 use Rattle.steps.specs.declared.step.Step.{Step}
-use mathlib.Core.Bool.{Bool, true, false, cond, _&&_, false≢true}
+use mathlib.Core.Bool.{Bool, true, false, _&&_, false≢true}
 use native.Mathlib.Omega.{arith}
 use lib.ListN.{length, getD}
-use lib.Dec.{ltb, eqb}
+use lib.Dec.{ltb}
 use borrow.Author.Tests.{ltb-true, ltb-false, lt-ltb, le-ltb}
-use Rattle.steps.specs.Answers.{Rec, Tape, link, recAt, onRecord, walk, chain, tapeAt, headOf, asked, askFor, ask, askAbout}
-use Rattle.steps.specs.declared.reader.Answer.{Answer}
+use Rattle.steps.specs.Answers.{Rec, link, recAt, onRecord, walk, chain, tapeAt, headOf, asked, askFor}
 use Rattle.steps.specs.declared.reader.Answer.the-variants.{Got, Refused}
-use Rattle.steps.specs.declared.reader.Found.{Found}
 use Rattle.steps.specs.declared.reader.Found.the-variants.{Record, End}
 
 and-false : (x : Bool) → x && false ≡ false

@@ -1,17 +1,15 @@
 -- Laws of the parts of an answer. Assumes nothing.
 use Prim.Native.Nat.{ℕ, _+_}
-use mathlib.Core.Path.{_≡_, refl, sym, ap, _∙_}
+use mathlib.Core.Path.{_≡_, sym, ap, _∙_}
 use mathlib.Core.List.{List, [], _∷_, _++_}
-use mathlib.Core.Bool.{Bool, true, false}
-use lib.Dec.{eqb}
+use mathlib.Core.Bool.{true, false}
 use borrow.Author.Tests.{eq-eqb, ne-eqb}
 use Rattle.steps.specs.declared.reader.Found.the-variants.{Record, End}
 use Rattle.steps.specs.declared.reader.Output.{Output}
-use Rattle.steps.specs.declared.reader.Parts.{Parts}
 use Rattle.steps.specs.declared.step.Step.{Step}
 use Rattle.steps.specs.Answers.{Rec, tape, chain, tapeAt, headOf}
 use Rattle.steps.specs.Steps.{Entry, message, fault, Out, out, putEntry, putAll}
-use Rattle.steps.specs.Runs.{Run, leaves, before}
+use Rattle.steps.specs.Runs.{Run, leaves}
 use Rattle.steps.specs.Parts.{isPart, partEntries, lastOutput, Told, partsFrom, toldBy, left}
 use Rattle.steps.proofs.Laws.{chain-found, chain-ended}
 use Rattle.steps.proofs.Runs.{leaves-before}

@@ -1,5 +1,5 @@
 -- Following the chains of a finished step gives its three lists. Assumes nothing.
-use Prim.Native.Nat.{ℕ, zero, suc, _+_, _*_, _/_, _≤_, _<_}
+use Prim.Native.Nat.{ℕ, _+_, _*_, _/_, _<_}
 use mathlib.Core.Path.{_≡_, refl, sym, ap, _∙_}
 use mathlib.Core.List.{List, [], _∷_, _++_, append-assoc, map}
 use native.Mathlib.Omega.{arith}
@@ -33,7 +33,7 @@ list-read (x ∷ xs) t rest i p e =
     let long : i < length t / 4 = omega (arith, length-drop (i * 4) t, ap length e) in
     let next : getD t (i * 4) 0 ≡ linkAfter i xs = ap (λ k. getD t k 0) (sym (add-zero (i * 4))) ∙ word-at t vs (i * 4) 0 e in
     let rests : drop ((i + 1) * 4) t ≡ chainWords (i + 1) xs ++ rest =
-      ap (λ k. drop k t) (four-more i) ∙ sym (drop-drop 4 (i * 4) t) ∙ ap (drop 4) e in
+    ap (λ k. drop k t) (four-more i) ∙ sym (drop-drop 4 (i * 4) t) ∙ ap (drop 4) e in
     let here : itemOf (recAt t i) ≡ x = rw (word-at t vs (i * 4) 1 e, word-at t vs (i * 4) 2 e, word-at t vs (i * 4) 3 e) in
     ap (map itemOf) (chain-on t i (on-record t i p long))
     ∙ ap (λ j. itemOf (recAt t i) ∷ map itemOf (chain t j)) (links t i xs next)

@@ -96,10 +96,8 @@ pub fn ask_about(answers: &[u64], place: &mut usize, kind: u64, who: u64) -> Ans
             a,
             b,
         } => {
-            if found != kind {
-                return Answer::Refused;
-            }
-            if b != who {
+            let wanted = (found == kind) & (b == who);
+            if !wanted {
                 return Answer::Refused;
             }
             *place = next;

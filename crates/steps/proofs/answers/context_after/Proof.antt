@@ -1,6 +1,6 @@
 -- Made by `fill` from answers.txt: change that and fill again.
 use native.Mathlib.Omega.{arith}
-use borrow.Author.Tests.{eq-eqb, ne-eqb, le-leb, lt-leb}
+use borrow.Author.Tests.{ne-eqb, le-leb, lt-leb}
 use Rattle.steps.specs.Table.{contextAfter}
 use Rattle.steps.proofs.answers.context_after.Statement.{statement}
 use Rattle.steps.proofs.answers.context_after.Tie as tie

@@ -1,5 +1,5 @@
 -- Made by `fill` from answers.txt: change that and fill again.
-use mathlib.Core.Path.{_≡_, sym, _∙_}
+use mathlib.Core.Path.{sym, _∙_}
 use borrow.Author.Tests.{eq-eqb, ne-eqb}
 use Rattle.steps.specs.Answers.{ask}
 use Rattle.steps.proofs.Laws.{asked-end, asked-got, asked-other}

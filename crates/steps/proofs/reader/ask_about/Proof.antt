@@ -1,6 +1,6 @@
 -- Made by `fill` from answers.txt: change that and fill again.
-use mathlib.Core.Path.{_≡_, sym, _∙_}
-use borrow.Author.Tests.{eq-eqb, ne-eqb}
+use mathlib.Core.Path.{sym, _∙_}
+use borrow.Author.Tests.{not-true, not-false}
 use Rattle.steps.specs.Answers.{askAbout}
 use Rattle.steps.proofs.Laws.{asked-end, asked-got, asked-other}
 use borrow.Author.Needs.{needs}
@@ -18,31 +18,25 @@ peek-requires c κs = search needs
 enum-known-next : tie.Need-enum-known-next
 enum-known-next c = search needs
 
--- src/reader.rt:100:17
+-- src/reader.rt:101:17
 returns : tie.Need-returns
 unfolding askAbout
-returns c = asked-other _ (c .before .before .before .before .before .before .before .args .answers .now) (c .before .before .before .before .before .before .before .args .place .now) (c .before .before .next .given .0 .0) (c .before .before .next .given .0 .1 .0) (c .before .before .next .given .0 .1 .1 .0) (c .before .before .next .given .0 .1 .1 .1 .0) (sym (c .before .before .before .before .peek .ensures) ∙ c .before .before .next .given .1) (rw (ne-eqb _ _ (c .if1 .taken)))
+returns c = asked-other _ (c .before .before .before .before .before .before .before .args .answers .now) (c .before .before .before .before .before .before .before .args .place .now) (c .before .before .next .given .0 .0) (c .before .before .next .given .0 .1 .0) (c .before .before .next .given .0 .1 .1 .0) (c .before .before .next .given .0 .1 .1 .1 .0) (sym (c .before .before .before .before .peek .ensures) ∙ c .before .before .next .given .1) (not-true _ (c .if1 .taken))
 
--- src/reader.rt:103:17
-returns-2 : tie.Need-returns-2
-unfolding askAbout
-returns-2 c = asked-other _ (c .before .before .before .before .before .before .before .before .args .answers .now) (c .before .before .before .before .before .before .before .before .args .place .now) (c .before .before .before .next .given .0 .0) (c .before .before .before .next .given .0 .1 .0) (c .before .before .before .next .given .0 .1 .1 .0) (c .before .before .before .next .given .0 .1 .1 .1 .0) (sym (c .before .before .before .before .before .peek .ensures) ∙ c .before .before .before .next .given .1) (rw (eq-eqb _ _ (c .before .if1 .left), ne-eqb _ _ (c .if2 .taken)))
-
--- src/reader.rt:108:23
+-- src/reader.rt:106:23
 enum-told : tie.Need-enum-told
 enum-told c = search needs
 
 -- src/reader.rt:88:1
-returns-3 : tie.Need-returns-3
+returns-2 : tie.Need-returns-2
 unfolding askAbout
-returns-3 c = asked-got _ (c .before .before .before .before .before .before .before .before .args .answers .now) (c .before .before .before .before .before .before .before .before .args .place .now) (c .before .before .before .next .given .0 .0) (c .before .before .before .next .given .0 .1 .0) (c .before .before .before .next .given .0 .1 .1 .0) (c .before .before .before .next .given .0 .1 .1 .1 .0) (sym (c .before .before .before .before .before .peek .ensures) ∙ c .before .before .before .next .given .1) (rw (eq-eqb _ _ (c .before .if1 .left), eq-eqb _ _ (c .if2 .left)))
+returns-2 c = asked-got _ (c .before .before .before .before .before .before .before .args .answers .now) (c .before .before .before .before .before .before .before .args .place .now) (c .before .before .next .given .0 .0) (c .before .before .next .given .0 .1 .0) (c .before .before .next .given .0 .1 .1 .0) (c .before .before .next .given .0 .1 .1 .1 .0) (sym (c .before .before .before .before .peek .ensures) ∙ c .before .before .next .given .1) (not-false _ (c .if1 .left))
 
 -- src/reader.rt:88:1
-returns-4 : tie.Need-returns-4
+returns-3 : tie.Need-returns-3
 unfolding askAbout
-returns-4 c = asked-end _ (c .before .before .before .before .before .args .answers .now) (c .before .before .before .before .before .args .place .now) (sym (c .before .before .peek .ensures) ∙ c .enum-told .given .1)
+returns-3 c = asked-end _ (c .before .before .before .before .before .args .answers .now) (c .before .before .before .before .before .args .place .now) (sym (c .before .before .peek .ensures) ∙ c .enum-told .given .1)
 
 pub ask-about-spec : {M : Type 1} → statement M
 ask-about-spec =
-    tie.close
-    (tie.spec peek-requires enum-known-next returns returns-2 enum-told returns-3 returns-4)
+    tie.close (tie.spec peek-requires enum-known-next returns enum-told returns-2 returns-3)

@@ -6,12 +6,12 @@ use Rattle.steps.proofs.reader.last_output.Tie as tie
 use Rattle.steps.proofs.reader.last_output.Reads as reads
 use Rattle.steps.proofs.reader.last_output.Lts as lts
 
--- src/reader.rt:145:9
+-- src/reader.rt:143:9
 returns : tie.Need-returns
 unfolding lastOutput
 returns c = rw (eq-eqb _ _ (c .if1 .taken))
 
--- src/reader.rt:141:1
+-- src/reader.rt:139:1
 returns-2 : tie.Need-returns-2
 unfolding lastOutput
 returns-2 c = rw (ne-eqb _ _ (c .if1 .left))

@@ -1,5 +1,5 @@
 -- Made by `fill` from answers.txt: change that and fill again.
-use mathlib.Core.Path.{_≡_, refl, sym, _∙_}
+use mathlib.Core.Path.{_∙_}
 use Rattle.steps.proofs.Parts.{message-part, fault-part, other-part}
 use borrow.Author.Needs.{needs}
 use Rattle.steps.proofs.reader.part_entry.Statement.{statement}
@@ -9,35 +9,35 @@ use Rattle.steps.proofs.reader.part_entry.Lts as lts
 use Rattle.steps.proofs.step.Step.fault.Reads as fault-reads
 use Rattle.steps.proofs.step.Step.message.Reads as message-reads
 
--- src/reader.rt:132:9
+-- src/reader.rt:130:9
 message-requires : tie.Need-message-requires
 message-requires c κs = search needs
 
--- src/reader.rt:132:9
+-- src/reader.rt:130:9
 same-length : tie.Need-same-length
 same-length c = search needs
 
--- src/reader.rt:132:9
+-- src/reader.rt:130:9
 returns : tie.Need-returns
 returns c = c .before .before .message .ensures ∙ message-part _ _ _ _ _ _ (c .before .before .before .before .if1 .taken)
 
--- src/reader.rt:135:34
+-- src/reader.rt:133:34
 add-fault : tie.Need-add-fault
 add-fault c = search needs
 
--- src/reader.rt:135:9
+-- src/reader.rt:133:9
 fault-requires : tie.Need-fault-requires
 fault-requires c κs = search needs
 
--- src/reader.rt:135:9
+-- src/reader.rt:133:9
 same-length-2 : tie.Need-same-length-2
 same-length-2 c = search needs
 
--- src/reader.rt:135:9
+-- src/reader.rt:133:9
 returns-2 : tie.Need-returns-2
 returns-2 c = c .before .before .fault .ensures ∙ fault-part _ _ _ _ _ _ (c .before .before .before .before .before .if1 .left) (c .before .before .before .before .if2 .taken)
 
--- src/reader.rt:119:1
+-- src/reader.rt:117:1
 returns-3 : tie.Need-returns-3
 returns-3 c = other-part _ _ _ _ _ _ (c .before .if1 .left) (c .if2 .left)
 

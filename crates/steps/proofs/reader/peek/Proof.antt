@@ -1,5 +1,5 @@
 -- Made by `fill` from answers.txt: change that and fill again.
-use mathlib.Core.Path.{_≡_, sym, _∙_}
+use mathlib.Core.Path.{sym, _∙_}
 use native.Mathlib.Omega.{arith}
 use Rattle.steps.proofs.Laws.{head-off, head-on, off-at-zero, off-past, on-record, link-up, link-end}
 use borrow.Author.Needs.{needs}

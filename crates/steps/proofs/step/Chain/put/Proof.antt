@@ -1,5 +1,4 @@
 -- Made by `fill` from answers.txt: change that and fill again.
-use mathlib.Core.Path.{_≡_, refl, sym}
 use native.Mathlib.Omega.{arith}
 use lib.ListN.{length-set}
 use borrow.Author.Tests.{le-ltb, lt-ltb, le-leb, lt-leb}

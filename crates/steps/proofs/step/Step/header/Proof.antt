@@ -1,5 +1,4 @@
 -- Made by `fill` from answers.txt: change that and fill again.
-use mathlib.Core.Path.{_≡_, refl}
 use native.Mathlib.Omega.{arith}
 use lib.ListN.{length-set}
 use Rattle.steps.specs.Steps.{putHeader}
