@@ -19,15 +19,23 @@ fn number(n: u64) {
     io::print_decimal(STDOUT_FILENO, n);
 }
 
-// The words of a table, a line.
-fn show(words: &[u64]) {
+fn line_begins() {
     say(b"  step");
+}
+
+fn line_ends() {
+    say(b"\n");
+}
+
+// The words of a step table, a line.
+fn show(words: &[u64; 20]) {
+    line_begins();
     let mut i: usize = 0;
-    while i < words.len() {
+    while i < 20 {
         number(words[i]);
         i += 1;
     }
-    say(b"\n");
+    line_ends();
 }
 
 // What an answer about a node came to: refused, a = 0, or its last output if it had one.
@@ -65,7 +73,17 @@ fn first(answers: &[u64]) -> usize {
     answers[0] as usize
 }
 
-// An answer of this kind about this node, with its parts. Kinds 3 and 4 are a broadcast's (content 1), 5 to 7 an agreement's (2).
+// Kinds 3 and 4 are a broadcast's (content 1), 5 to 7 an agreement's (2).
+fn content_of(kind: u64) -> u64
+    ensures { λ r. ⌜ r ≤ 2 ⌝ }
+{
+    if kind <= 4 {
+        return 1;
+    }
+    2
+}
+
+// An answer of this kind about this node, with its parts.
 fn hear(answers: &[u64], kind: u64, who: u64, step: Step, words: &mut [u64]) -> Heard {
     let mut place = first(answers);
     match steps::reader::ask_about(answers, &mut place, kind, who) {
@@ -74,7 +92,7 @@ fn hear(answers: &[u64], kind: u64, who: u64, step: Step, words: &mut [u64]) -> 
                 let told = Told::No;
                 return Heard { told, step };
             }
-            let content: u64 = if kind <= 4 { 1 } else { 2 };
+            let content = content_of(kind);
             let parts = steps::reader::read_parts(answers, &mut place, content, who, step, words);
             let output = parts.output;
             let told = Told::Output(output);
@@ -157,6 +175,23 @@ fn network() -> NetworkInfo
     }
 }
 
+// The second run of a share's handling, which writes what the first has counted.
+fn write_share(
+    td: ThresholdDecrypt,
+    sender: usize,
+    handle: u64,
+    answers: &[u64],
+    count: Step,
+    words: &mut [u64],
+)
+    requires { ⌜ sender < 4 ⌝ }
+{
+    let net = network();
+    let mut place = first(answers);
+    let step = begin(count, words, 0);
+    td.handle_message(net, 0, sender, handle, answers, &mut place, step, words);
+}
+
 // A share of a sender for proposer 0, at an observer of four nodes: the instance afterwards.
 fn share(
     title: &[u8],
@@ -183,24 +218,13 @@ fn share(
     );
     let outcome = handled.outcome;
     show_outcome(outcome);
-    let mut words = [9u64; 12];
+    let mut words = [9u64; 20];
     match outcome {
         Outcome::Refused => {}
         Outcome::Decryption => Step::counting().header(&mut words, 0),
         Outcome::Nothing | Outcome::Plaintext(_) => {
             let count = handled.step;
-            let step = begin(count, &mut words, 0);
-            let mut again = first(answers);
-            td.handle_message(
-                net,
-                0,
-                sender,
-                handle,
-                answers,
-                &mut again,
-                step,
-                &mut words,
-            );
+            write_share(td, sender, handle, answers, count, &mut words);
         }
     }
     show(&words);
