@@ -1,0 +1,113 @@
+-- What each operation replies, and every word that it leaves (document 01, 'What each operation replies').
+use Prim.Native.Nat.{ℕ, _+_, _/_}
+use mathlib.Core.List.{List, [], _∷_, _++_}
+use mathlib.Core.Bool.{Bool, true, false, cond, _&&_, not}
+use lib.ListN.{length, getD, set, drop, replicate}
+use lib.Dec.{eqb, leb, ltb}
+use Rattle.steps.specs.Table.{handle, within, tableOk}
+use Rattle.steps.specs.Answers.{Rec, Tape, tapeOf}
+use Rattle.steps.specs.Steps.{Entry, faults, written, writtenFailed}
+use Rattle.steps.specs.Runs.{Verdict, going, refused, failed, Run}
+use Rattle.epoch.specs.declared.MessageContent.{MessageContent}
+use Rattle.epoch.specs.declared.MessageContent.the-variants.{Broadcast, Agreement, DecryptionShare}
+use Rattle.engine.specs.State.{nodes, currentEpoch, lastEpoch, faultsAt, faultLimit, stateOk}
+use Rattle.engine.specs.HoneyBadger.{propose, handleMessage, skipToEpoch, hasInput, receivedProposals}
+
+-- a call's reply, and the lent words afterwards
+pub record After : Type 0 where
+  pub reply : ℕ
+  pub state : List ℕ
+  pub scratch : List ℕ
+  pub step : List ℕ
+
+abbrev pub after : ℕ → List ℕ → List ℕ → List ℕ → After
+after reply state scratch step = record { reply = reply; state = state; scratch = scratch; step = step }
+
+-- "the first state-length words of scratch are zero, the rest untouched"
+unfoldable pub zeroed : List ℕ → List ℕ → List ℕ
+zeroed state scratch = replicate (length state) 0 ++ drop (length state) scratch
+
+-- "the fault count, all faults in successful steps since creation, stopping at 2^32−1"
+unfoldable pub countFaults : List ℕ → List Entry → List ℕ
+countFaults w log =
+    cond (leb (getD w faultsAt 0 + length (faults log)) faultLimit)
+    (set w faultsAt (getD w faultsAt 0 + length (faults log)))
+    (set w faultsAt faultLimit)
+
+unfoldable pub isEnd : List Rec → Bool
+isEnd [] = true
+isEnd (r ∷ rs) = false
+
+-- what a run comes to: 8, 9 and 10 leave the state and the step table untouched, a failure loses the step
+unfoldable pub concludeAs : Verdict (Unit {0}) → Run (List ℕ) (Unit {0}) → ℕ → List ℕ → List ℕ → List ℕ → After
+concludeAs refused r epoch state scratch step = after 8 state scratch step
+concludeAs (going _) r epoch state scratch step =
+    -- "9: answers remain unread"
+    cond (isEnd (r .tape .rest))
+    -- "10: the step table has fewer whole records than the step"
+    (cond (leb (1 + length (r .log)) (length step / 4))
+    (after 0 (countFaults (r .state) (r .log)) scratch (written step (r .log) epoch))
+    (after 10 state scratch step))
+    (after 9 state scratch step)
+concludeAs (failed error) r epoch state scratch step =
+    cond (isEnd (r .tape .rest))
+    -- "and 10 if no header fits"
+    (cond (leb 1 (length step / 4))
+    (after error (r .state) scratch (writtenFailed step epoch))
+    (after 10 state scratch step))
+    (after 9 state scratch step)
+
+abbrev pub conclude : Run (List ℕ) (Unit {0}) → ℕ → List ℕ → List ℕ → List ℕ → After
+conclude r epoch state scratch step = concludeAs (r .verdict) r epoch state scratch step
+
+module _ (state scratch answers step : List ℕ) where
+  -- propose: checks 3, 4, 5, 6, then the run
+  unfoldable pub proposeCall : After
+  proposeCall =
+      cond (not (stateOk state)) (after 3 state scratch step)
+      (cond (ltb (length scratch) (length state)) (after 4 state scratch step)
+      (cond (not (tableOk (nodes state) answers)) (after 5 state (zeroed state scratch) step)
+      (cond (ltb lastEpoch (currentEpoch state)) (after 6 state (zeroed state scratch) step)
+      (conclude (propose state (tapeOf answers)) (currentEpoch state) state (zeroed state scratch) step))))
+
+  module _ (sender epoch content proposer item : ℕ) where
+    -- "7: content not 1 broadcast, 2 agreement, 3 share; proposer ≥ N; item not 0 for contents 1 and 2, or not a handle for 3"
+    unfoldable pub contentOk : Bool
+    contentOk = within 1 3 content && ltb proposer (nodes state) && cond (eqb content 3) (handle item) (eqb item 0)
+
+    unfoldable pub contentOf : MessageContent
+    contentOf = cond (eqb content 1) Broadcast (cond (eqb content 2) Agreement (DecryptionShare item))
+
+    -- message: checks 3, 4, 5, 11, 7, 6, then the run
+    unfoldable pub messageCall : After
+    messageCall =
+        cond (not (stateOk state)) (after 3 state scratch step)
+        (cond (ltb (length scratch) (length state)) (after 4 state scratch step)
+        (cond (not (tableOk (nodes state) answers)) (after 5 state (zeroed state scratch) step)
+        (cond (leb (nodes state) sender) (after 11 state (zeroed state scratch) step)
+        (cond (not contentOk) (after 7 state (zeroed state scratch) step)
+        (cond (ltb lastEpoch (currentEpoch state)) (after 6 state (zeroed state scratch) step)
+        (conclude (handleMessage sender epoch proposer contentOf state (tapeOf answers)) epoch state (zeroed state scratch) step))))))
+
+-- skip: its reply, and the state afterwards. "12: target above 2^62. No step."
+unfoldable pub skipReply : ℕ → List ℕ → ℕ
+skipReply target w = cond (not (stateOk w)) 3 (cond (ltb lastEpoch target) 12 0)
+
+unfoldable pub skipState : ℕ → List ℕ → List ℕ
+skipState target w = cond (eqb (skipReply target w) 0) (skipToEpoch target w) w
+
+-- queries: reply 3 or 0, and the result, untouched where the reply is 3
+unfoldable pub queryReply : List ℕ → ℕ
+queryReply w = cond (stateOk w) 0 3
+
+unfoldable pub currentEpochResult : List ℕ → ℕ → ℕ
+currentEpochResult w result = cond (stateOk w) (currentEpoch w) result
+
+unfoldable pub hasInputResult : List ℕ → ℕ → ℕ
+hasInputResult w result = cond (stateOk w) (cond (hasInput w) 1 0) result
+
+unfoldable pub receivedProposalsResult : List ℕ → ℕ → ℕ
+receivedProposalsResult w result = cond (stateOk w) (receivedProposals w) result
+
+unfoldable pub faultCountResult : List ℕ → ℕ → ℕ
+faultCountResult w result = cond (stateOk w) (getD w faultsAt 0) result

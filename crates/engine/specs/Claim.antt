@@ -1,0 +1,92 @@
+-- DEMAND 3: the claim about two whole lists of calls. Stated here, owed: a statement without a proof of it claims nothing
+-- (docs/EVIDENCE.md says which landing owes it).
+use Prim.Native.Nat.{ℕ, _-_, _+_, _≤_, _<_}
+use mathlib.Core.Path.{_≡_}
+use mathlib.Core.Logic.{_⊎_}
+use mathlib.Core.List.{List, _++_, List·Memᴰ}
+use mathlib.Core.Bool.{Bool, true}
+use mathlib.Core.Option.{Option, some}
+use lib.ListN.{length}
+use Rattle.engine.specs.Schedule.{scheduleOf, useOnEpoch}
+use Rattle.engine.specs.Create.{Numbers, createReply, createState}
+use Rattle.engine.specs.History.{Call, Turn, turns, noneFails, Event, history, Handed, handed, handedIn, valueTaken, decisionTaken, unreadable, unreadableOf, contributors, Reading, readings}
+
+-- PREMISES
+
+-- where both runs took something for an epoch and a proposer, it is the same
+abbrev pub TookAlike : (ℕ → ℕ → Option ℕ) → (ℕ → ℕ → Option ℕ) → Type 0
+TookAlike took₁ took₂ = (e p x y : ℕ) → took₁ e p ≡ some x → took₂ e p ≡ some y → x ≡ y
+
+-- "a value has one answer to 8, 9 and 12, a plaintext one to 13, in both runs, whoever proposed it; the answer is a, for 12 also b"
+abbrev pub ReadAlike : List Reading → Type 0
+ReadAlike rs =
+    (x y : Reading) → List·Memᴰ x rs → List·Memᴰ y rs → x .kind ≡ y .kind → x .subject ≡ y .subject
+    → (x .a ≡ y .a) × (x .kind ≡ 12 → x .b ≡ y .b)
+
+-- CONCLUSIONS
+
+-- the proposers decided true in an epoch
+abbrev pub DecidedTrue : ℕ → List Event → ℕ → ℕ → Type 0
+DecidedTrue n h e p = (p < n) × (decisionTaken h e p ≡ some 1)
+
+-- on one host: contributors and unreadable are disjoint, together exactly the proposers decided true, and at least N − f
+pub record Exact (n f : ℕ) (h : List Event) (x : Handed) : Type 0 where
+  pub decided : (p : ℕ) → DecidedTrue n h (x .batch .epoch) p → List·Memᴰ p (contributors x) ⊎ List·Memᴰ p (unreadable x)
+  pub contributing : (p : ℕ) → List·Memᴰ p (contributors x) → DecidedTrue n h (x .batch .epoch) p
+  pub notReading : (p : ℕ) → List·Memᴰ p (unreadable x) → DecidedTrue n h (x .batch .epoch) p
+  pub apart : (p : ℕ) → List·Memᴰ p (contributors x) → List·Memᴰ p (unreadable x) → ⊥
+  pub enough : n - f ≤ length (contributors x) + length (unreadable x)
+
+-- of one run: "that a step's faults 5, which name no epoch, are exactly these, batch by batch, is part of demand 3"
+pub record One (n f : ℕ) (encrypted : ℕ → Bool) (h : List Event) : Type 0 where
+  pub fives : (x : Event) → List·Memᴰ x h → x .fives ≡ unreadableOf (handedIn n encrypted h x)
+  pub exact : (x : Handed) → List·Memᴰ x (handed n encrypted h) → Exact n f h x
+
+-- of both: the batches of one epoch have the same record and entries, in order, and the same unreadable proposers
+abbrev pub Two : ℕ → (ℕ → Bool) → List Event → List Event → Type 0
+Two n encrypted h₁ h₂ =
+    (x y : Handed) → List·Memᴰ x (handed n encrypted h₁) → List·Memᴰ y (handed n encrypted h₂)
+    → x .batch .epoch ≡ y .batch .epoch → (x .batch ≡ y .batch) × (unreadable x ≡ unreadable y)
+
+pub record Premises (n : ℕ) (encrypted : ℕ → Bool) (h₁ h₂ : List Event) : Type 0 where
+  pub values : TookAlike (valueTaken h₁) (valueTaken h₂)
+  pub decisions : TookAlike (decisionTaken h₁) (decisionTaken h₂)
+  pub readings : ReadAlike (readings n encrypted h₁ ++ readings n encrypted h₂)
+
+pub record Conclusions (n f : ℕ) (encrypted : ℕ → Bool) (h₁ h₂ : List Event) : Type 0 where
+  pub first : One n f encrypted h₁
+  pub second : One n f encrypted h₂
+  pub both : Two n encrypted h₁ h₂
+
+-- THE CLAIM. A run: create's numbers and state words, and the calls
+pub record Made : Type 0 where
+  pub numbers : Numbers
+  pub words : List ℕ
+  pub calls : List Call
+
+abbrev pub turnsOf : Made → List Turn
+turnsOf m = turns (createState (m .numbers) (m .words)) (m .calls)
+
+-- "The current epoch begins at the start epoch"
+abbrev pub historyOf : Made → List Event
+historyOf m = history (m .numbers .epoch) (turnsOf m)
+
+abbrev pub encryptedOf : Made → ℕ → Bool
+encryptedOf m = useOnEpoch (scheduleOf (m .numbers .schedule) (m .numbers .first) (m .numbers .second))
+
+-- "Each list starts from the state that a create with reply 0 left"; "none fails"
+pub record Sound (m : Made) : Type 0 where
+  pub created : createReply (m .numbers) (m .words) ≡ 0
+  pub unfailing : noneFails (turnsOf m) ≡ true
+
+-- equal N, f and schedule; own index, key, strategy, look-ahead and start epoch may differ
+pub record SameNetwork (m₁ m₂ : Made) : Type 0 where
+  pub nodes : m₁ .numbers .nodes ≡ m₂ .numbers .nodes
+  pub faulty : m₁ .numbers .faulty ≡ m₂ .numbers .faulty
+  pub schedule : encryptedOf m₁ ≡ encryptedOf m₂
+
+abbrev pub TwoRuns : Type 0
+TwoRuns =
+    (m₁ m₂ : Made) → Sound m₁ → Sound m₂ → SameNetwork m₁ m₂
+    → Premises (m₁ .numbers .nodes) (encryptedOf m₁) (historyOf m₁) (historyOf m₂)
+    → Conclusions (m₁ .numbers .nodes) (m₁ .numbers .faulty) (encryptedOf m₁) (historyOf m₁) (historyOf m₂)

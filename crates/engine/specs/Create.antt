@@ -1,0 +1,50 @@
+-- Create: its reply, and the state that it leaves.
+use Prim.Native.Nat.{ℕ, _+_, _*_, _-_}
+use mathlib.Core.List.{List, [], _∷_, _++_}
+use mathlib.Core.Bool.{Bool, cond, _&&_, not}
+use lib.ListN.{length, replicate}
+use lib.Dec.{eqb, leb, ltb}
+use Rattle.steps.specs.Table.{within}
+use Rattle.subset.specs.Words.{epochLength}
+use Rattle.engine.specs.Schedule.{scheduleOk, firstNumber, secondNumber}
+use Rattle.engine.specs.State.{stateLength, lastEpoch}
+
+-- the ten numbers, in the order of the interface
+pub record Numbers : Type 0 where
+  pub nodes : ℕ
+  pub faulty : ℕ
+  pub ahead : ℕ
+  pub own : ℕ
+  pub key : ℕ
+  pub strategy : ℕ
+  pub epoch : ℕ
+  pub schedule : ℕ
+  pub first : ℕ
+  pub second : ℕ
+
+-- "1: N outside 1..16, 3 × f ≥ N, look-ahead F above 15, own index above N (N means observer), key flag or strategy not 0 or 1, start
+-- epoch above 2^62", and the schedule's rule
+unfoldable pub numbersOk : Numbers → Bool
+numbersOk c =
+    within 1 16 (c .nodes)
+    && ltb (3 * c .faulty) (c .nodes)
+    && leb (c .ahead) 15
+    && leb (c .own) (c .nodes)
+    && leb (c .key) 1
+    && leb (c .strategy) 1
+    && leb (c .epoch) lastEpoch
+    && scheduleOk (c .schedule) (c .first) (c .second)
+
+-- the state before any call: the header, and look-ahead + 1 places without an epoch
+unfoldable pub created : Numbers → List ℕ
+created c =
+    1 ∷ c .nodes ∷ c .faulty ∷ c .ahead ∷ c .own ∷ c .key ∷ c .strategy
+    ∷ c .schedule ∷ firstNumber (c .schedule) (c .first) ∷ secondNumber (c .schedule) (c .second)
+    ∷ c .epoch ∷ replicate (5 + (c .ahead + 1) * epochLength (c .nodes)) 0
+
+-- "Then 2: state length is not 16 + (F+1) × (16 + N × (8+N)) words."
+unfoldable pub createReply : Numbers → List ℕ → ℕ
+createReply c w = cond (not (numbersOk c)) 1 (cond (eqb (length w) (stateLength (c .nodes) (c .ahead))) 0 2)
+
+unfoldable pub createState : Numbers → List ℕ → List ℕ
+createState c w = cond (eqb (createReply c w) 0) (created c) w

@@ -1,0 +1,247 @@
+-- What happened in a run, told from its calls, their chains of answers and their step words alone (document 01, 'Rules to keep').
+use Prim.Native.Nat.{ℕ, zero, suc, _+_, max}
+use mathlib.Core.List.{List, [], _∷_, _++_}
+use mathlib.Core.Bool.{Bool, true, false, cond, _&&_, _||_}
+use mathlib.Core.Option.{Option, none, some}
+use lib.ListN.{length, getD, take, drop}
+use lib.Dec.{eqb, leb, ltb}
+use Rattle.steps.specs.Answers.{Rec, chain, tapeOf}
+use Rattle.steps.specs.Taken.{orElse, isThere, isTrue, firstTaken, ofValue, ofDecision}
+use Rattle.engine.specs.Calls.{proposeCall, messageCall, skipReply, skipState}
+
+-- A CALL with "any answer, step and scratch words"
+pub data Call : Type 0 where
+  propose : (scratch answers step : List ℕ) → Call
+  message : (sender epoch content proposer item : ℕ) (scratch answers step : List ℕ) → Call
+  skip : (target : ℕ) → Call
+
+-- a call that was made, its reply, and the words of its step table afterwards (a skip has none)
+pub record Turn : Type 0 where
+  pub call : Call
+  pub reply : ℕ
+  pub step : List ℕ
+
+unfoldable pub turnOf : List ℕ → Call → Turn
+turnOf w (propose scratch answers step) =
+    record {
+      call = propose scratch answers step;
+      reply = proposeCall w scratch answers step .reply;
+      step = proposeCall w scratch answers step .step;
+    }
+turnOf w (message sender epoch content proposer item scratch answers step) =
+    record {
+      call = message sender epoch content proposer item scratch answers step;
+      reply = messageCall w scratch answers step sender epoch content proposer item .reply;
+      step = messageCall w scratch answers step sender epoch content proposer item .step;
+    }
+turnOf w (skip target) = record { call = skip target; reply = skipReply target w; step = [] }
+
+unfoldable pub stateAfter : List ℕ → Call → List ℕ
+stateAfter w (propose scratch answers step) = proposeCall w scratch answers step .state
+stateAfter w (message sender epoch content proposer item scratch answers step) =
+    messageCall w scratch answers step sender epoch content proposer item .state
+stateAfter w (skip target) = skipState target w
+
+-- "Each call gets the state as the one before it left it"
+unfoldable pub turns : List ℕ → List Call → List Turn
+turns w [] = []
+turns w (c ∷ cs) = turnOf w c ∷ turns (stateAfter w c) cs
+
+-- "none fails (20 to 25)"
+unfoldable pub noneFails : List Turn → Bool
+noneFails [] = true
+noneFails (t ∷ ts) = ltb (t .reply) 20 && noneFails ts
+
+-- WHAT A STEP HOLDS. A batch record's a and b, and its entries by proposer and plaintext, nexts left out
+pub record Entry : Type 0 where
+  pub proposer : ℕ
+  pub plaintext : ℕ
+
+pub record Batch : Type 0 where
+  pub epoch : ℕ
+  pub count : ℕ
+  pub entries : List Entry
+
+-- the records 2 up to the next batch
+unfoldable pub entriesIn : List Rec → List Entry
+entriesIn [] = []
+entriesIn (r ∷ rs) = cond (eqb (r .kind) 2) (record { proposer = r .a; plaintext = r .b } ∷ entriesIn rs) []
+
+unfoldable pub batchesIn : List Rec → List Batch
+batchesIn [] = []
+batchesIn (r ∷ rs) = cond (eqb (r .kind) 1) (record { epoch = r .a; count = r .b; entries = entriesIn rs } ∷ batchesIn rs) (batchesIn rs)
+
+-- the nodes of faults 5
+unfoldable pub fivesIn : List Rec → List ℕ
+fivesIn [] = []
+fivesIn (r ∷ rs) = cond (eqb (r .kind) 5) (r .a ∷ fivesIn rs) (fivesIn rs)
+
+-- the header holds the first output at word 2, the first fault at word 1
+abbrev pub batchesOf : List ℕ → List Batch
+batchesOf step = batchesIn (chain step (getD step 2 0))
+
+abbrev pub fivesOf : List ℕ → List ℕ
+fivesOf step = fivesIn (chain step (getD step 1 0))
+
+-- THE HISTORY: "What follows counts calls with reply 0 only, each with its whole chain of answers."
+pub record Event : Type 0 where
+  -- "A message is for the epoch it names, a propose for the epoch current before it."
+  pub epoch : ℕ
+  -- the proposer of a share message
+  pub shareOf : Option ℕ
+  pub answers : List Rec
+  pub batches : List Batch
+  pub fives : List ℕ
+
+abbrev pub event : ℕ → Option ℕ → List ℕ → List ℕ → Event
+event epoch shareOf answers step =
+    record { epoch = epoch; shareOf = shareOf; answers = tapeOf answers .rest; batches = batchesOf step; fives = fivesOf step }
+
+unfoldable pub eventsOf : ℕ → Call → List ℕ → List Event
+eventsOf current (propose scratch answers step₀) step = event current none answers step ∷ []
+eventsOf current (message sender epoch content proposer item scratch answers step₀) step =
+    event epoch (cond (eqb content 3) (some proposer) none) answers step ∷ []
+eventsOf current (skip target) step = []
+
+-- "each batch handed out adds one, each skip raises it to its target if higher"
+unfoldable pub currentAfter : ℕ → Call → List ℕ → ℕ
+currentAfter current (propose scratch answers step₀) step = current + length (batchesOf step)
+currentAfter current (message sender epoch content proposer item scratch answers step₀) step = current + length (batchesOf step)
+currentAfter current (skip target) step = max current target
+
+unfoldable pub history : ℕ → List Turn → List Event
+history current [] = []
+history current (t ∷ ts) =
+    cond (eqb (t .reply) 0)
+    (eventsOf current (t .call) (t .step) ++ history (currentAfter current (t .call) (t .step)) ts)
+    (history current ts)
+
+-- WHAT WAS TAKEN: "In an epoch, the value taken for a proposer is […]; the decision is the same of kinds 5 to 7"
+unfoldable pub taken : (ℕ → Bool) → List Event → ℕ → ℕ → Option ℕ
+taken is [] e p = none
+taken is (x ∷ xs) e p = orElse (cond (eqb (x .epoch) e) (firstTaken is p (x .answers)) none) (taken is xs e p)
+
+abbrev pub valueTaken : List Event → ℕ → ℕ → Option ℕ
+valueTaken h e p = taken ofValue h e p
+
+abbrev pub decisionTaken : List Event → ℕ → ℕ → Option ℕ
+decisionTaken h e p = taken ofDecision h e p
+
+-- "12 [concerns] that of the last 8 before it in the call, in a share message that of the message's proposer": the handle of the first
+-- such 12 for proposer p, where `who` is the proposer that a 12 concerns here
+unfoldable pub concerns : Option ℕ → ℕ → Bool
+concerns none p = false
+concerns (some q) p = eqb q p
+
+unfoldable pub firstDecrypted : ℕ → Option ℕ → List Rec → Option ℕ
+firstDecrypted p who [] = none
+firstDecrypted p who (r ∷ rs) =
+    cond (eqb (r .kind) 8) (firstDecrypted p (some (r .b)) rs)
+    (cond (eqb (r .kind) 12 && concerns who p) (orElse (some (r .b)) (firstDecrypted p who rs)) (firstDecrypted p who rs))
+
+unfoldable pub decrypted : List Event → ℕ → ℕ → Option ℕ
+decrypted [] e p = none
+decrypted (x ∷ xs) e p = orElse (cond (eqb (x .epoch) e) (firstDecrypted p (x .shareOf) (x .answers)) none) (decrypted xs e p)
+
+-- "The plaintext is the value itself where the epoch is not encrypted, else 12's handle."
+unfoldable pub plaintext : (ℕ → Bool) → List Event → ℕ → ℕ → Option ℕ
+plaintext encrypted h e p = cond (encrypted e) (decrypted h e p) (valueTaken h e p)
+
+-- THE 13s
+unfoldable pub thirteensIn : List Rec → List Rec
+thirteensIn [] = []
+thirteensIn (r ∷ rs) = cond (eqb (r .kind) 13) (r ∷ thirteensIn rs) (thirteensIn rs)
+
+-- how many of the next m proposers, from p on, are "in its epoch […] decided true and [have] a plaintext"
+unfoldable pub countOpen : (ℕ → Option ℕ) → (ℕ → Option ℕ) → ℕ → ℕ → ℕ
+countOpen decision text zero p = 0
+countOpen decision text (suc m) p = cond (isTrue (decision p) && isThere (text p)) 1 0 + countOpen decision text m (p + 1)
+
+-- a batch with its 13s
+pub record Handed : Type 0 where
+  pub batch : Batch
+  pub thirteens : List Rec
+
+module _ (n : ℕ) (encrypted : ℕ → Bool) (h : List Event) where
+  -- the 13s of a batch of this epoch: one for every such proposer
+  unfoldable pub wantedIn : ℕ → ℕ
+  wantedIn e = countOpen (decisionTaken h e) (plaintext encrypted h e) n 0
+
+  -- "The 13s of a call go to its step's batches in order"
+  unfoldable pub dealt : List Batch → List Rec → List Handed
+  dealt [] rs = []
+  dealt (b ∷ bs) rs =
+      record { batch = b; thirteens = take (wantedIn (b .epoch)) rs } ∷ dealt bs (drop (wantedIn (b .epoch)) rs)
+
+  abbrev pub handedIn : Event → List Handed
+  handedIn x = dealt (x .batches) (thirteensIn (x .answers))
+
+  unfoldable pub handedOf : List Event → List Handed
+  handedOf [] = []
+  handedOf (x ∷ xs) = handedIn x ++ handedOf xs
+
+  -- every batch that the run handed out
+  abbrev pub handed : List Handed
+  handed = handedOf h
+
+-- "Unreadable are those whose 13 has a = 0"
+unfoldable pub unreadableIn : List Rec → List ℕ
+unreadableIn [] = []
+unreadableIn (r ∷ rs) = cond (eqb (r .a) 0) (r .b ∷ unreadableIn rs) (unreadableIn rs)
+
+abbrev pub unreadable : Handed → List ℕ
+unreadable x = unreadableIn (x .thirteens)
+
+unfoldable pub proposersIn : List Entry → List ℕ
+proposersIn [] = []
+proposersIn (x ∷ xs) = x .proposer ∷ proposersIn xs
+
+-- "Contributors are those with an entry."
+abbrev pub contributors : Handed → List ℕ
+contributors x = proposersIn (x .batch .entries)
+
+unfoldable pub unreadableOf : List Handed → List ℕ
+unreadableOf [] = []
+unreadableOf (x ∷ xs) = unreadable x ++ unreadableOf xs
+
+-- READING, CHECKING AND DECRYPTING: an answer to 8, 9 or 12 of a value, or to 13 of a plaintext
+pub record Reading : Type 0 where
+  pub kind : ℕ
+  pub subject : ℕ
+  pub a : ℕ
+  pub b : ℕ
+
+unfoldable pub readingOf : ℕ → Option ℕ → Rec → List Reading
+readingOf kind none r = []
+readingOf kind (some x) r = record { kind = kind; subject = x; a = r .a; b = r .b } ∷ []
+
+unfoldable pub valueOf : (ℕ → Option ℕ) → Option ℕ → Option ℕ
+valueOf value none = none
+valueOf value (some p) = value p
+
+-- "Kinds 8 and 9 concern their proposer's value; 12 that of the last 8 before it in the call, in a share message that of the message's
+-- proposer." `value` gives the values taken in the epoch
+unfoldable pub readingsIn : (ℕ → Option ℕ) → Option ℕ → List Rec → List Reading
+readingsIn value who [] = []
+readingsIn value who (r ∷ rs) =
+    cond (eqb (r .kind) 8) (readingOf 8 (value (r .b)) r ++ readingsIn value (some (r .b)) rs)
+    (cond (eqb (r .kind) 9) (readingOf 9 (value (r .b)) r ++ readingsIn value who rs)
+    (cond (eqb (r .kind) 12) (readingOf 12 (valueOf value who) r ++ readingsIn value who rs)
+    (readingsIn value who rs)))
+
+-- a 13 concerns the plaintext of the proposer that it names, in its batch's epoch
+unfoldable pub readingsOf13 : (ℕ → Option ℕ) → List Rec → List Reading
+readingsOf13 text [] = []
+readingsOf13 text (r ∷ rs) = readingOf 13 (text (r .b)) r ++ readingsOf13 text rs
+
+unfoldable pub readingsOfBatches : (ℕ → Bool) → List Event → List Handed → List Reading
+readingsOfBatches encrypted h [] = []
+readingsOfBatches encrypted h (x ∷ xs) =
+    readingsOf13 (plaintext encrypted h (x .batch .epoch)) (x .thirteens) ++ readingsOfBatches encrypted h xs
+
+unfoldable pub readingsOfCalls : List Event → List Event → List Reading
+readingsOfCalls h [] = []
+readingsOfCalls h (x ∷ xs) = readingsIn (valueTaken h (x .epoch)) (x .shareOf) (x .answers) ++ readingsOfCalls h xs
+
+abbrev pub readings : ℕ → (ℕ → Bool) → List Event → List Reading
+readings n encrypted h = readingsOfCalls h h ++ readingsOfBatches encrypted h (handed n encrypted h)

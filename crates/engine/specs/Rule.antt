@@ -1,0 +1,64 @@
+-- THE PAPER'S RULE (Miller et al., CCS 2016, as document 01 words it) over one run of the engine without a failing call, and the range
+-- rule over every call. Stated here, owed: a statement without a proof of it claims nothing (docs/EVIDENCE.md).
+use Prim.Native.Nat.{ℕ, _+_, _≤_, _<_}
+use mathlib.Core.Path.{_≡_}
+use mathlib.Core.List.{List, [], _∷_, _++_, List·Memᴰ}
+use mathlib.Core.Bool.{Bool, true}
+use mathlib.Core.Option.{Option, none, some}
+use Rattle.steps.specs.declared.network_info.NetworkInfo.{NetworkInfo}
+use Rattle.steps.specs.Network.{numCorrect}
+use Rattle.steps.specs.Table.{within}
+use Rattle.steps.specs.Taken.{orElse, isTrue, firstTaken, ofValue, asked, onesFrom}
+use Rattle.subset.specs.Rule.{isOver}
+use Rattle.epoch.specs.Words.{isComplete, isAccepted}
+use Rattle.engine.specs.State.{nodes, ahead, currentEpoch, netOf, epochWords, stateOk}
+use Rattle.engine.specs.Create.{Numbers, createReply, createState}
+use Rattle.engine.specs.History.{Call, stateAfter, Event, valueTaken, decisionTaken, Handed, handed}
+use Rattle.engine.specs.Claim.{Made, Sound, historyOf, encryptedOf}
+
+-- the state that a list of calls leaves
+unfoldable pub stateAfterAll : List ℕ → List Call → List ℕ
+stateAfterAll w [] = w
+stateAfterAll w (c ∷ cs) = stateAfterAll (stateAfter w c) cs
+
+abbrev pub endOf : Made → List ℕ
+endOf m = stateAfterAll (createState (m .numbers) (m .words)) (m .calls)
+
+abbrev pub netIn : Made → NetworkInfo
+netIn m = netOf (createState (m .numbers) (m .words))
+
+-- the decision for p in x's epoch, as far as the answers 5 and 6 of x bring it: before the round of votes 0
+abbrev pub decidedBefore7 : List Event → Event → ℕ → Option ℕ
+decidedBefore7 h x p = orElse (decisionTaken h (x .epoch) p) (firstTaken (within 5 6) p (x .answers))
+
+-- the votes in one call x, after the calls h
+pub record Votes (net : NetworkInfo) (h : List Event) (x : Event) : Type 0 where
+  -- "a delivered value earns a vote 1 while its agreement is undecided"
+  pub one : (p v : ℕ) → p < net .«num_nodes» → valueTaken h (x .epoch) p ≡ none → firstTaken ofValue p (x .answers) ≡ some v
+      → decisionTaken h (x .epoch) p ≡ none → asked 6 p (x .answers) ≡ true
+  -- "N−f ones bring vote 0 to undecided agreements without a vote"
+  pub zero : (p : ℕ) → p < net .«num_nodes» → onesFrom (decisionTaken h (x .epoch)) (net .«num_nodes») 0 < numCorrect net
+      → numCorrect net ≤ onesFrom (decidedBefore7 h x) (net .«num_nodes») 0 → decidedBefore7 h x p ≡ none → asked 7 p (x .answers) ≡ true
+
+pub record PaperRule (m : Made) : Type 0 where
+  pub votes : (h : List Event) (x : Event) (l : List Event) → historyOf m ≡ h ++ (x ∷ l) → Votes (netIn m) h x
+  -- "when all have decided, at least N−f of them 1, and every value decided 1 is here": for every epoch that is in the state
+  pub complete : (e : ℕ) → currentEpoch (endOf m) ≤ e → e ≤ currentEpoch (endOf m) + ahead (endOf m)
+      → isComplete (epochWords (endOf m) e) ≡ isOver (netIn m) (valueTaken (historyOf m) e) (decisionTaken (historyOf m) e)
+  -- "the output is those pairs": the accepted proposers are those decided 1
+  pub accepted : (e p : ℕ) → currentEpoch (endOf m) ≤ e → e ≤ currentEpoch (endOf m) + ahead (endOf m)
+      → isComplete (epochWords (endOf m) e) ≡ true → p < netIn m .«num_nodes»
+      → isAccepted (epochWords (endOf m) e) p ≡ isTrue (decisionTaken (historyOf m) e p)
+  -- and for every epoch that was handed out
+  pub handedOut : (x : Handed) → List·Memᴰ x (handed (m .numbers .nodes) (encryptedOf m) (historyOf m))
+      → isOver (netIn m) (valueTaken (historyOf m) (x .batch .epoch)) (decisionTaken (historyOf m) (x .batch .epoch)) ≡ true
+
+abbrev pub EngineRule : Type 0
+EngineRule = (m : Made) → Sound m → PaperRule m
+
+-- "no state the engine leaves breaks them": the range rule after create and after every call, failed ones too
+abbrev pub CreateInRange : Type 0
+CreateInRange = (c : Numbers) (w : List ℕ) → createReply c w ≡ 0 → stateOk (createState c w) ≡ true
+
+abbrev pub CallsInRange : Type 0
+CallsInRange = (w : List ℕ) (c : Call) → stateOk w ≡ true → stateOk (stateAfter w c) ≡ true

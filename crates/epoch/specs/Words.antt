@@ -1,0 +1,135 @@
+-- The words of one epoch, as far as decryption uses them, and the range rule of all of them (docs/STATE.md).
+use Prim.Native.Nat.{ℕ, zero, suc, _+_, _*_, _/_, _%_, _^_, _-_}
+use mathlib.Core.List.{List, [], _∷_, _++_}
+use mathlib.Core.Bool.{Bool, true, false, cond, _&&_, not}
+use lib.ListN.{getD, set, replicate}
+use lib.Dec.{eqb, leb, ltb}
+use Rattle.decryption.specs.declared.ThresholdDecrypt.{ThresholdDecrypt}
+use Rattle.decryption.specs.Decrypt.{new}
+use Rattle.subset.specs.Words.{recordAt, statusAt, decidedAt, acceptedAt, countAt, proposalAt, valueAt, arrivalAt, epochLength}
+
+-- status: 0 there is no such epoch, 1 `SubsetState::Ongoing`, 2 `SubsetState::Complete`
+abbrev pub isVacant : List ℕ → Bool
+isVacant w = eqb (getD w statusAt 0) 0
+
+abbrev pub isComplete : List ℕ → Bool
+isComplete w = eqb (getD w statusAt 0) 2
+
+-- THE ACCEPTED PROPOSERS, a word of bits
+unfoldable pub hasBit : ℕ → ℕ → Bool
+hasBit x i = eqb (x / 2 ^ i % 2) 1
+
+unfoldable pub withBit : ℕ → ℕ → ℕ
+withBit x i = cond (hasBit x i) x (x + 2 ^ i)
+
+-- how many of the next m bits, from bit i on, are set
+unfoldable pub countBits : ℕ → ℕ → ℕ → ℕ
+countBits zero i x = 0
+countBits (suc m) i x = cond (hasBit x i) 1 0 + countBits m (i + 1) x
+
+unfoldable pub isAccepted : List ℕ → ℕ → Bool
+isAccepted w p = hasBit (getD w acceptedAt 0) p
+
+unfoldable pub accept : List ℕ → ℕ → List ℕ
+accept w p = set w acceptedAt (withBit (getD w acceptedAt 0) p)
+
+-- THE DECRYPTION of a proposer's contribution: no entry, one that is ongoing, or one that is complete with its plaintext
+pub data DecryptionState : Type 0 where
+  missing : DecryptionState
+  ongoing : ThresholdDecrypt → DecryptionState
+  complete : ℕ → DecryptionState
+
+abbrev pub decryptionAt : ℕ → ℕ → ℕ
+decryptionAt n p = recordAt n p 2
+
+abbrev pub plaintextAt : ℕ → ℕ → ℕ
+plaintextAt n p = recordAt n p 3
+
+abbrev pub ciphertextAt : ℕ → ℕ → ℕ
+ciphertextAt n p = recordAt n p 4
+
+abbrev pub hadInputAt : ℕ → ℕ → ℕ
+hadInputAt n p = recordAt n p 5
+
+abbrev pub terminatedAt : ℕ → ℕ → ℕ
+terminatedAt n p = recordAt n p 6
+
+abbrev pub shareAt : ℕ → ℕ → ℕ → ℕ
+shareAt n p sender = recordAt n p (8 + sender)
+
+-- the shares of the next m senders, from sender i on
+unfoldable pub sharesFrom : ℕ → ℕ → ℕ → ℕ → List ℕ → List ℕ
+sharesFrom n p zero i w = []
+sharesFrom n p (suc m) i w = getD w (shareAt n p i) 0 ∷ sharesFrom n p m (i + 1) w
+
+-- an instance has room for 16 senders
+unfoldable pub loadInstance : ℕ → List ℕ → ℕ → ThresholdDecrypt
+loadInstance n w p =
+    record {
+      ciphertext = getD w (ciphertextAt n p) 0;
+      shares = sharesFrom n p n 0 w ++ replicate (16 - n) 0;
+      «had_input» = not (eqb (getD w (hadInputAt n p) 0) 0);
+      terminated = not (eqb (getD w (terminatedAt n p) 0) 0);
+    }
+
+unfoldable pub loadDecryption : ℕ → List ℕ → ℕ → DecryptionState
+loadDecryption n w p =
+    cond (eqb (getD w (decryptionAt n p) 0) 0) missing
+    (cond (eqb (getD w (decryptionAt n p) 0) 1) (ongoing (loadInstance n w p)) (complete (getD w (plaintextAt n p) 0)))
+
+-- the words of an entry: decryption, plaintext, ciphertext, had input, terminated, and the shares
+unfoldable pub setShares : ℕ → ℕ → ℕ → ℕ → List ℕ → List ℕ → List ℕ
+setShares n p zero i s w = w
+setShares n p (suc m) i s w = setShares n p m (i + 1) s (set w (shareAt n p i) (getD s i 0))
+
+abbrev pub flag : Bool → ℕ
+flag b = cond b 1 0
+
+unfoldable pub storeEntry : ℕ → List ℕ → ℕ → ℕ → ℕ → ThresholdDecrypt → List ℕ
+storeEntry n w p tag plaintext td =
+    setShares n p n 0 (td .shares)
+    (set (set (set (set (set w
+    (decryptionAt n p) tag)
+    (plaintextAt n p) plaintext)
+    (ciphertextAt n p) (td .ciphertext))
+    (hadInputAt n p) (flag (td .«had_input»)))
+    (terminatedAt n p) (flag (td .terminated)))
+
+unfoldable pub storeDecryption : ℕ → List ℕ → ℕ → DecryptionState → List ℕ
+storeDecryption n w p missing = storeEntry n w p 0 0 new
+storeDecryption n w p (ongoing td) = storeEntry n w p 1 0 td
+storeDecryption n w p (complete plaintext) = storeEntry n w p 2 plaintext new
+
+-- THE RANGE RULE of an epoch's words. A handle, or 0 for none, is below 2^32
+abbrev pub maybeHandle : ℕ → Bool
+maybeHandle x = ltb x 4294967296
+
+-- the next m words, from word i on, are each so
+unfoldable pub allFrom : (ℕ → Bool) → ℕ → ℕ → List ℕ → Bool
+allFrom is zero i w = true
+allFrom is (suc m) i w = is (getD w i 0) && allFrom is m (i + 1) w
+
+unfoldable pub recordInRange : ℕ → List ℕ → ℕ → Bool
+recordInRange n w p =
+    leb (getD w (proposalAt n p) 0) 4
+    && maybeHandle (getD w (valueAt n p) 0)
+    && leb (getD w (decryptionAt n p) 0) 2
+    && maybeHandle (getD w (plaintextAt n p) 0)
+    && maybeHandle (getD w (ciphertextAt n p) 0)
+    && leb (getD w (hadInputAt n p) 0) 1
+    && leb (getD w (terminatedAt n p) 0) 1
+    && ltb (getD w (arrivalAt n p) 0) n
+    && allFrom maybeHandle n (shareAt n p 0) w
+
+unfoldable pub recordsInRange : ℕ → ℕ → ℕ → List ℕ → Bool
+recordsInRange n zero p w = true
+recordsInRange n (suc m) p w = recordInRange n w p && recordsInRange n m (p + 1) w
+
+unfoldable pub epochInRange : ℕ → List ℕ → Bool
+epochInRange n w =
+    leb (getD w statusAt 0) 2
+    && leb (getD w decidedAt 0) 1
+    && ltb (getD w acceptedAt 0) (2 ^ n)
+    && leb (getD w countAt 0) n
+    && allFrom (λ x. eqb x 0) 12 4 w
+    && recordsInRange n n 0 w

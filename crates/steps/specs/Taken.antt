@@ -1,0 +1,52 @@
+-- What a chain of answers tells of an instance: the output that is taken from it (document 01, 'Rules to keep').
+use Prim.Native.Nat.{ℕ, zero, suc, _+_}
+use mathlib.Core.List.{List, [], _∷_}
+use mathlib.Core.Bool.{Bool, true, false, cond, _&&_, _||_}
+use mathlib.Core.Option.{Option, none, some}
+use lib.Dec.{eqb}
+use Rattle.steps.specs.Table.{within}
+use Rattle.steps.specs.Answers.{Rec}
+use Rattle.steps.specs.Parts.{isPart}
+
+unfoldable pub orElse : {A : Type 0} → Option A → Option A → Option A
+orElse none y = y
+orElse (some x) y = some x
+
+unfoldable pub isThere : Option ℕ → Bool
+isThere none = false
+isThere (some x) = true
+
+-- "true being 1"
+unfoldable pub isTrue : Option ℕ → Bool
+isTrue none = false
+isTrue (some d) = eqb d 1
+
+-- the last output among the parts that stand first
+unfoldable pub lastOutputIn : List Rec → Option ℕ
+lastOutputIn [] = none
+lastOutputIn (r ∷ rs) =
+    cond (isPart (r .kind)) (orElse (lastOutputIn rs) (cond (eqb (r .kind) 18) (some (r .b)) none)) none
+
+-- "the last output of the first […] answer for it that has an output", of the kinds that `is` tells
+unfoldable pub firstTaken : (ℕ → Bool) → ℕ → List Rec → Option ℕ
+firstTaken is p [] = none
+firstTaken is p (r ∷ rs) =
+    cond (is (r .kind) && eqb (r .b) p) (orElse (lastOutputIn rs) (firstTaken is p rs)) (firstTaken is p rs)
+
+-- "the value taken for a proposer is the last output of the first kind 3 or 4 answer for it that has an output"
+abbrev pub ofValue : ℕ → Bool
+ofValue kind = within 3 4 kind
+
+-- "the decision is the same of kinds 5 to 7"
+abbrev pub ofDecision : ℕ → Bool
+ofDecision kind = within 5 7 kind
+
+-- whether an answer of this kind about p was asked for
+unfoldable pub asked : ℕ → ℕ → List Rec → Bool
+asked kind p [] = false
+asked kind p (r ∷ rs) = eqb (r .kind) kind && eqb (r .b) p || asked kind p rs
+
+-- how many of the next m proposers, from p on, are decided true
+unfoldable pub onesFrom : (ℕ → Option ℕ) → ℕ → ℕ → ℕ
+onesFrom decision zero p = 0
+onesFrom decision (suc m) p = cond (isTrue (decision p)) 1 0 + onesFrom decision m (p + 1)

@@ -1,0 +1,4 @@
+pub mod Words
+pub mod Proposal
+pub mod Subset
+pub mod Rule

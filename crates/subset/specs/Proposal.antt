@@ -1,0 +1,108 @@
+-- A proposal, after proposal_state.rs. `error` is the number that the caller gives a failure, 22 or 23.
+use Prim.Native.Nat.{ℕ, zero, suc}
+use mathlib.Core.Bool.{Bool, true, false, cond}
+use mathlib.Core.Option.{Option, none, some}
+use lib.Dec.{eqb}
+use Rattle.steps.specs.declared.reader.Output.{Output}
+use Rattle.steps.specs.declared.reader.Output.the-variants.{Missing, Value}
+use Rattle.steps.specs.Answers.{Tape, askAbout}
+use Rattle.steps.specs.Runs.{going, failed, Run, ends, onward, heard}
+use Rattle.steps.specs.Parts.{readParts}
+use Rattle.subset.specs.declared.ProposalState.{ProposalState}
+use Rattle.subset.specs.declared.ProposalState.the-variants.{Ongoing, HasValue, Accepted, Complete}
+
+-- the value is here, or was output
+unfoldable pub received : ProposalState → Bool
+received Ongoing = false
+received (HasValue v) = true
+received Accepted = false
+received (Complete b) = b
+
+-- the agreement has decided 1, whether the value is here or not
+unfoldable pub accepted : ProposalState → Bool
+accepted Ongoing = false
+accepted (HasValue v) = false
+accepted Accepted = true
+accepted (Complete b) = b
+
+-- rejected, or accepted and output
+unfoldable pub complete : ProposalState → Bool
+complete Ongoing = false
+complete (HasValue v) = false
+complete Accepted = false
+complete (Complete b) = true
+
+-- a proposal's state and the value that it outputs, if it does
+pub record Moved : Type 0 where
+  pub state : ProposalState
+  pub value : Option ℕ
+
+abbrev pub moved : ProposalState → Option ℕ → Moved
+moved s v = record { state = s; value = v }
+
+-- the answer of the agreement instance, already read: "A proposal goes Ongoing, then HasValue or Accepted, then Complete"
+unfoldable pub afterAgreement : ProposalState → Output → Moved
+afterAgreement Ongoing Missing = moved Ongoing none
+afterAgreement Ongoing (Value d) = cond (eqb d 0) (moved (Complete false) none) (moved Accepted none)
+afterAgreement (HasValue v) Missing = moved (HasValue v) none
+afterAgreement (HasValue v) (Value d) = cond (eqb d 0) (moved (Complete false) none) (moved (Complete true) (some v))
+afterAgreement Accepted out = moved Accepted none
+afterAgreement (Complete b) out = moved (Complete b) none
+
+-- the answer of the broadcast instance, already read
+unfoldable pub afterBroadcast : ProposalState → Output → Moved
+afterBroadcast Ongoing Missing = moved Ongoing none
+afterBroadcast Ongoing (Value v) = moved (HasValue v) none
+afterBroadcast (HasValue v) out = moved (HasValue v) none
+afterBroadcast Accepted Missing = moved Accepted none
+afterBroadcast Accepted (Value v) = moved (Complete true) (some v)
+afterBroadcast (Complete b) out = moved (Complete b) none
+
+-- "No outside call is made in HasValue for broadcast, in Accepted for agreement, in Complete at all."
+unfoldable pub asksAgreement : ProposalState → Bool
+asksAgreement Ongoing = true
+asksAgreement (HasValue v) = true
+asksAgreement Accepted = false
+asksAgreement (Complete b) = false
+
+unfoldable pub asksBroadcast : ProposalState → Bool
+asksBroadcast Ongoing = true
+asksBroadcast (HasValue v) = false
+asksBroadcast Accepted = true
+asksBroadcast (Complete b) = false
+
+abbrev pub movedTo : Moved → Tape → Run ProposalState (Option ℕ)
+movedTo m p = ends (going (m .value)) (m .state) p
+
+module _ (error proposer : ℕ) where
+  -- `convert_bc` and `convert_ba`: an instance's answer of this kind about the proposer, and its last output
+  unfoldable pub instanceAnswer : ℕ → ℕ → ProposalState → Tape → Run ProposalState Output
+  instanceAnswer kind content s p =
+      heard (askAbout p kind proposer) s (λ a b q.
+      cond (eqb a 0) (ends (failed error) s q) (readParts content proposer s q))
+
+  -- an agreement message (kind 5), propose(true) (6) or propose(false) (7)
+  unfoldable pub handleAgreement : ℕ → ProposalState → Tape → Run ProposalState (Option ℕ)
+  handleAgreement kind s p =
+      cond (asksAgreement s)
+      (onward (instanceAnswer kind 2 s p) (λ out s q. movedTo (afterAgreement s out) q))
+      (ends (going none) s p)
+
+  -- the value has come while the agreement is undecided: a vote 1 for it. "If propose(true) fails after a value, the proposal keeps HasValue."
+  unfoldable pub voteTrue : Moved → Tape → Run ProposalState (Option ℕ)
+  voteTrue m p = cond (asksAgreement (m .state)) (handleAgreement 6 (m .state) p) (movedTo m p)
+
+  unfoldable pub afterValue : ProposalState → Output → Tape → Run ProposalState (Option ℕ)
+  afterValue s Missing p = movedTo (afterBroadcast s Missing) p
+  afterValue s (Value v) p = voteTrue (afterBroadcast s (Value v)) p
+
+  -- `Broadcast::broadcast` (kind 3) or `Broadcast::handle_message` (4)
+  unfoldable pub handleBroadcast : ℕ → ProposalState → Tape → Run ProposalState (Option ℕ)
+  handleBroadcast kind s p =
+      cond (asksBroadcast s)
+      (onward (instanceAnswer kind 1 s p) (λ out s q. afterValue s out q))
+      (ends (going none) s p)
+
+  -- `vote_false`
+  abbrev pub voteFalse : ProposalState → Tape → Run ProposalState (Option ℕ)
+  voteFalse s p = handleAgreement 7 s p

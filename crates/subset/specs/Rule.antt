@@ -1,0 +1,117 @@
+-- THE PAPER'S RULE (Miller et al., CCS 2016, as document 01 words it) at the subset layer, over a run of subset calls of one epoch in
+-- which no call fails. Values and decisions are read off the answers. Stated here, owed: a statement without a proof of it claims nothing.
+use Prim.Native.Nat.{ℕ, zero, suc, _+_, _-_, _≤_, _<_}
+use mathlib.Core.Path.{_≡_}
+use mathlib.Core.List.{List, [], _∷_, _++_, List·Memᴰ}
+use mathlib.Core.Bool.{Bool, true, false, cond, _&&_, _||_, not}
+use mathlib.Core.Option.{Option, none, some}
+use lib.ListN.{getD, set, replicate}
+use lib.Dec.{eqb, leb}
+use Rattle.steps.specs.declared.network_info.NetworkInfo.{NetworkInfo}
+use Rattle.steps.specs.Network.{Network, numCorrect}
+use Rattle.steps.specs.Answers.{Rec, Tape, tapeOf}
+use Rattle.steps.specs.Table.{within, tableOk}
+use Rattle.steps.specs.Taken.{orElse, isThere, isTrue, firstTaken, ofValue, ofDecision, asked, onesFrom}
+use Rattle.steps.specs.Runs.{Verdict, going, refused, failed, Run}
+use Rattle.subset.specs.Words.{epochLength, decidedAt, countAt, valueAt, arrivalAt}
+use Rattle.subset.specs.Subset.{propose, handleMessage}
+
+-- all agreements of the next m proposers, from p on, have decided, and every value decided 1 is here
+unfoldable pub settledFrom : (ℕ → Option ℕ) → (ℕ → Option ℕ) → ℕ → ℕ → Bool
+settledFrom value decision zero p = true
+settledFrom value decision (suc m) p =
+    isThere (decision p) && (not (isTrue (decision p)) || isThere (value p)) && settledFrom value decision m (p + 1)
+
+-- "when all have decided, at least N−f of them 1, and every value decided 1 is here"
+unfoldable pub isOver : NetworkInfo → (ℕ → Option ℕ) → (ℕ → Option ℕ) → Bool
+isOver net value decision =
+    settledFrom value decision (net .«num_nodes») 0 && leb (numCorrect net) (onesFrom decision (net .«num_nodes») 0)
+
+-- A CALL of the subset, with its answer table
+pub data SubsetCall : Type 0 where
+  proposing : SubsetCall
+  broadcasting : ℕ → SubsetCall
+  agreeing : ℕ → SubsetCall
+
+pub record SubsetEvent : Type 0 where
+  pub call : SubsetCall
+  pub table : List ℕ
+
+abbrev pub answers : SubsetEvent → List Rec
+answers x = tapeOf (x .table) .rest
+
+-- no table is malformed (reply 5)
+unfoldable pub tablesOk : ℕ → List SubsetEvent → Bool
+tablesOk n [] = true
+tablesOk n (x ∷ xs) = tableOk n (x .table) && tablesOk n xs
+
+-- what was taken for proposer p in a run
+unfoldable pub takenBy : (ℕ → Bool) → List SubsetEvent → ℕ → Option ℕ
+takenBy is [] p = none
+takenBy is (x ∷ xs) p = orElse (firstTaken is p (answers x)) (takenBy is xs p)
+
+module _ (net : NetworkInfo) where
+  unfoldable pub callSubset : SubsetCall → List ℕ → Tape → Run (List ℕ) Bool
+  callSubset proposing w p = propose net 22 w p
+  callSubset (broadcasting proposer) w p = handleMessage net 23 1 proposer w p
+  callSubset (agreeing proposer) w p = handleMessage net 23 2 proposer w p
+
+  -- the words after a run of calls, each of which reads its whole chain; none where one is refused or fails
+  unfoldable pub wordsAs : Verdict Bool → List Rec → List ℕ → Option (List ℕ)
+  wordsAs (going done) [] w = some w
+  wordsAs (going done) (r ∷ rs) w = none
+  wordsAs refused rs w = none
+  wordsAs (failed error) rs w = none
+
+  unfoldable pub thenWords : Option (List ℕ) → (List ℕ → Option (List ℕ)) → Option (List ℕ)
+  thenWords none k = none
+  thenWords (some w) k = k w
+
+  unfoldable pub wordsAfter : List ℕ → List SubsetEvent → Option (List ℕ)
+  wordsAfter w [] = some w
+  wordsAfter w (x ∷ xs) =
+      let r = callSubset (x .call) w (tapeOf (x .table)) in
+      thenWords (wordsAs (r .verdict) (r .tape .rest) (r .state)) (λ w. wordsAfter w xs)
+
+-- an epoch of which nothing is known yet
+abbrev pub blank : ℕ → List ℕ
+blank n = set (replicate (epochLength n) 0) 0 1
+
+-- a contribution, and those that have been handed up
+pub record Contribution : Type 0 where
+  pub proposer : ℕ
+  pub value : ℕ
+
+unfoldable pub contributionsFrom : ℕ → ℕ → ℕ → List ℕ → List Contribution
+contributionsFrom n zero i w = []
+contributionsFrom n (suc m) i w =
+    record { proposer = getD w (arrivalAt n i) 0; value = getD w (valueAt n (getD w (arrivalAt n i) 0)) 0 }
+    ∷ contributionsFrom n m (i + 1) w
+
+abbrev pub contributions : ℕ → List ℕ → List Contribution
+contributions n w = contributionsFrom n (getD w countAt 0) 0 w
+
+-- the decision for p, as far as the answers 5 and 6 of a call bring it: before the round of votes 0
+abbrev pub decidedBefore7 : List SubsetEvent → SubsetEvent → ℕ → Option ℕ
+decidedBefore7 h x p = orElse (takenBy ofDecision h p) (firstTaken (within 5 6) p (answers x))
+
+pub record PaperRule (net : NetworkInfo) (h : List SubsetEvent) (x : SubsetEvent) (w : List ℕ) : Type 0 where
+  -- "a delivered value earns a vote 1 while its agreement is undecided"
+  pub voteOne : (p v : ℕ) → p < net .«num_nodes» → takenBy ofValue h p ≡ none → firstTaken ofValue p (answers x) ≡ some v
+      → takenBy ofDecision h p ≡ none → asked 6 p (answers x) ≡ true
+  -- "N−f ones bring vote 0 to undecided agreements without a vote": all those undecided in the call that brings the N−f-th
+  pub voteZero : (p : ℕ) → p < net .«num_nodes» → onesFrom (takenBy ofDecision h) (net .«num_nodes») 0 < numCorrect net
+      → numCorrect net ≤ onesFrom (decidedBefore7 h x) (net .«num_nodes») 0 → decidedBefore7 h x p ≡ none → asked 7 p (answers x) ≡ true
+  -- "when all have decided, at least N−f of them 1, and every value decided 1 is here": then, and only then, it is done
+  pub done : eqb (getD w decidedAt 0) 1 ≡ isOver net (takenBy ofValue (h ++ (x ∷ []))) (takenBy ofDecision (h ++ (x ∷ [])))
+  -- "the output is those pairs": handed up are the pairs of a proposer decided 1 and its value
+  pub handedUp : (p v : ℕ) → takenBy ofDecision (h ++ (x ∷ [])) p ≡ some 1 → takenBy ofValue (h ++ (x ∷ [])) p ≡ some v → p < net .«num_nodes»
+      → List·Memᴰ (record { proposer = p; value = v }) (contributions (net .«num_nodes») w)
+  pub noOthers : (c : Contribution) → List·Memᴰ c (contributions (net .«num_nodes») w)
+      → (c .proposer < net .«num_nodes») × (takenBy ofDecision (h ++ (x ∷ [])) (c .proposer) ≡ some 1) × (takenBy ofValue (h ++ (x ∷ [])) (c .proposer) ≡ some (c .value))
+
+abbrev pub SubsetRule : Type 0
+SubsetRule =
+    (net : NetworkInfo) (h : List SubsetEvent) (x : SubsetEvent) (w : List ℕ) → Network net
+    → tablesOk (net .«num_nodes») (h ++ (x ∷ [])) ≡ true
+    → wordsAfter net (blank (net .«num_nodes»)) (h ++ (x ∷ [])) ≡ some w → PaperRule net h x w

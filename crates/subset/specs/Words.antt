@@ -1,0 +1,81 @@
+-- The words of one epoch, as far as the subset uses them (docs/STATE.md): 16 words, then 8 + n words for each of n proposers.
+use Prim.Native.Nat.{ℕ, zero, suc, _+_, _*_}
+use mathlib.Core.List.{List}
+use mathlib.Core.Bool.{Bool, true, false, cond}
+use lib.ListN.{getD, set}
+use lib.Dec.{eqb, ltb}
+use Rattle.subset.specs.declared.ProposalState.{ProposalState}
+use Rattle.subset.specs.declared.ProposalState.the-variants.{Ongoing, HasValue, Accepted, Complete}
+
+-- the length of a proposer's record, and of an epoch
+abbrev pub recordLength : ℕ → ℕ
+recordLength n = 8 + n
+
+abbrev pub epochLength : ℕ → ℕ
+epochLength n = 16 + n * recordLength n
+
+-- the epoch's own words
+abbrev pub statusAt : ℕ
+statusAt = 0
+
+abbrev pub decidedAt : ℕ
+decidedAt = 1
+
+abbrev pub acceptedAt : ℕ
+acceptedAt = 2
+
+abbrev pub countAt : ℕ
+countAt = 3
+
+-- word j of proposer p's record
+abbrev pub recordAt : ℕ → ℕ → ℕ → ℕ
+recordAt n p j = 16 + p * recordLength n + j
+
+abbrev pub proposalAt : ℕ → ℕ → ℕ
+proposalAt n p = recordAt n p 0
+
+abbrev pub valueAt : ℕ → ℕ → ℕ
+valueAt n p = recordAt n p 1
+
+-- who is i-th in the list of contributions
+abbrev pub arrivalAt : ℕ → ℕ → ℕ
+arrivalAt n i = recordAt n i 7
+
+-- a proposal in its two words
+unfoldable pub proposalOf : ℕ → ℕ → ProposalState
+proposalOf tag value =
+    cond (eqb tag 0) Ongoing
+    (cond (eqb tag 1) (HasValue value)
+    (cond (eqb tag 2) Accepted
+    (cond (eqb tag 3) (Complete false) (Complete true))))
+
+unfoldable pub tagOf : ProposalState → ℕ
+tagOf Ongoing = 0
+tagOf (HasValue v) = 1
+tagOf Accepted = 2
+tagOf (Complete b) = cond b 4 3
+
+unfoldable pub valueOf : ProposalState → ℕ
+valueOf Ongoing = 0
+valueOf (HasValue v) = v
+valueOf Accepted = 0
+valueOf (Complete b) = 0
+
+unfoldable pub loadProposal : ℕ → List ℕ → ℕ → ProposalState
+loadProposal n w p = proposalOf (getD w (proposalAt n p) 0) (getD w (valueAt n p) 0)
+
+unfoldable pub storeProposal : ℕ → List ℕ → ℕ → ProposalState → List ℕ
+storeProposal n w p s = set (set w (proposalAt n p) (tagOf s)) (valueAt n p) (valueOf s)
+
+-- THE CONTRIBUTIONS that the subset has handed up and the epoch has not handled yet, in the order of their arrival: their number, who is
+-- i-th, and each one's value in the record of its proposer
+unfoldable pub addContribution : ℕ → List ℕ → ℕ → ℕ → List ℕ
+addContribution n w p value =
+    cond (ltb (getD w countAt 0) n)
+    (set (set (set w (arrivalAt n (getD w countAt 0)) p) (valueAt n p) value) countAt (getD w countAt 0 + 1))
+    w
+
+-- the list without its entries from the i-th on, of which there are m
+unfoldable pub dropFrom : ℕ → ℕ → ℕ → List ℕ → List ℕ
+dropFrom n zero i w = w
+dropFrom n (suc m) i w = dropFrom n m (i + 1) (set (set w (valueAt n (getD w (arrivalAt n i) 0)) 0) (arrivalAt n i) 0)
