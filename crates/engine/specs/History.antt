@@ -5,6 +5,7 @@ use mathlib.Core.Bool.{Bool, true, false, cond, _&&_, _||_}
 use mathlib.Core.Option.{Option, none, some}
 use lib.ListN.{length, getD, take, drop}
 use lib.Dec.{eqb, leb, ltb}
+use Rattle.steps.specs.Table.{within}
 use Rattle.steps.specs.Answers.{Rec, chain, tapeOf}
 use Rattle.steps.specs.Taken.{orElse, isThere, isTrue, firstTaken, ofValue, ofDecision}
 use Rattle.engine.specs.Calls.{proposeCall, messageCall, skipReply, skipState}
@@ -69,12 +70,13 @@ entriesIn (r ∷ rs) = cond (eqb (r .kind) 2) (record { proposer = r .a; plainte
 
 unfoldable pub batchesIn : List Rec → List Batch
 batchesIn [] = []
-batchesIn (r ∷ rs) = cond (eqb (r .kind) 1) (record { epoch = r .a; count = r .b; entries = entriesIn rs } ∷ batchesIn rs) (batchesIn rs)
+batchesIn (r ∷ rs) =
+    cond (eqb (r .kind) 1) (record { epoch = r .a; count = r .b; entries = entriesIn rs } ∷ []) [] ++ batchesIn rs
 
 -- the nodes of faults 5
 unfoldable pub fivesIn : List Rec → List ℕ
 fivesIn [] = []
-fivesIn (r ∷ rs) = cond (eqb (r .kind) 5) (r .a ∷ fivesIn rs) (fivesIn rs)
+fivesIn (r ∷ rs) = cond (eqb (r .kind) 5) (r .a ∷ []) [] ++ fivesIn rs
 
 -- the header holds the first output at word 2, the first fault at word 1
 abbrev pub batchesOf : List ℕ → List Batch
@@ -112,9 +114,8 @@ currentAfter current (skip target) step = max current target
 unfoldable pub history : ℕ → List Turn → List Event
 history current [] = []
 history current (t ∷ ts) =
-    cond (eqb (t .reply) 0)
-    (eventsOf current (t .call) (t .step) ++ history (currentAfter current (t .call) (t .step)) ts)
-    (history current ts)
+    cond (eqb (t .reply) 0) (eventsOf current (t .call) (t .step)) []
+    ++ history (cond (eqb (t .reply) 0) (currentAfter current (t .call) (t .step)) current) ts
 
 -- WHAT WAS TAKEN: "In an epoch, the value taken for a proposer is […]; the decision is the same of kinds 5 to 7"
 unfoldable pub taken : (ℕ → Bool) → List Event → ℕ → ℕ → Option ℕ
@@ -127,17 +128,20 @@ valueTaken h e p = taken ofValue h e p
 abbrev pub decisionTaken : List Event → ℕ → ℕ → Option ℕ
 decisionTaken h e p = taken ofDecision h e p
 
--- "12 [concerns] that of the last 8 before it in the call, in a share message that of the message's proposer": the handle of the first
--- such 12 for proposer p, where `who` is the proposer that a 12 concerns here
+-- "12 [concerns] that of the last 8 before it in the call, in a share message that of the message's proposer": the proposer that a 12
+-- concerns after a record, where it was `who` before it
+unfoldable pub concernedAfter : Option ℕ → Rec → Option ℕ
+concernedAfter who r = cond (eqb (r .kind) 8) (some (r .b)) who
+
 unfoldable pub concerns : Option ℕ → ℕ → Bool
 concerns none p = false
 concerns (some q) p = eqb q p
 
+-- the handle of the first 12 that concerns proposer p
 unfoldable pub firstDecrypted : ℕ → Option ℕ → List Rec → Option ℕ
 firstDecrypted p who [] = none
 firstDecrypted p who (r ∷ rs) =
-    cond (eqb (r .kind) 8) (firstDecrypted p (some (r .b)) rs)
-    (cond (eqb (r .kind) 12 && concerns who p) (orElse (some (r .b)) (firstDecrypted p who rs)) (firstDecrypted p who rs))
+    orElse (cond (eqb (r .kind) 12 && concerns who p) (some (r .b)) none) (firstDecrypted p (concernedAfter who r) rs)
 
 unfoldable pub decrypted : List Event → ℕ → ℕ → Option ℕ
 decrypted [] e p = none
@@ -150,7 +154,7 @@ plaintext encrypted h e p = cond (encrypted e) (decrypted h e p) (valueTaken h e
 -- THE 13s
 unfoldable pub thirteensIn : List Rec → List Rec
 thirteensIn [] = []
-thirteensIn (r ∷ rs) = cond (eqb (r .kind) 13) (r ∷ thirteensIn rs) (thirteensIn rs)
+thirteensIn (r ∷ rs) = cond (eqb (r .kind) 13) (r ∷ []) [] ++ thirteensIn rs
 
 -- how many of the next m proposers, from p on, are "in its epoch […] decided true and [have] a plaintext"
 unfoldable pub countOpen : (ℕ → Option ℕ) → (ℕ → Option ℕ) → ℕ → ℕ → ℕ
@@ -187,7 +191,7 @@ module _ (n : ℕ) (encrypted : ℕ → Bool) (h : List Event) where
 -- "Unreadable are those whose 13 has a = 0"
 unfoldable pub unreadableIn : List Rec → List ℕ
 unreadableIn [] = []
-unreadableIn (r ∷ rs) = cond (eqb (r .a) 0) (r .b ∷ unreadableIn rs) (unreadableIn rs)
+unreadableIn (r ∷ rs) = cond (eqb (r .a) 0) (r .b ∷ []) [] ++ unreadableIn rs
 
 abbrev pub unreadable : Handed → List ℕ
 unreadable x = unreadableIn (x .thirteens)
@@ -219,15 +223,15 @@ unfoldable pub valueOf : (ℕ → Option ℕ) → Option ℕ → Option ℕ
 valueOf value none = none
 valueOf value (some p) = value p
 
--- "Kinds 8 and 9 concern their proposer's value; 12 that of the last 8 before it in the call, in a share message that of the message's
--- proposer." `value` gives the values taken in the epoch
+-- "Kinds 8 and 9 concern their proposer's value", a 12 that of the proposer that it concerns. `value` gives the values taken in the epoch
+unfoldable pub readingsAt : (ℕ → Option ℕ) → Option ℕ → Rec → List Reading
+readingsAt value who r =
+    cond (within 8 9 (r .kind)) (readingOf (r .kind) (value (r .b)) r)
+    (cond (eqb (r .kind) 12) (readingOf 12 (valueOf value who) r) [])
+
 unfoldable pub readingsIn : (ℕ → Option ℕ) → Option ℕ → List Rec → List Reading
 readingsIn value who [] = []
-readingsIn value who (r ∷ rs) =
-    cond (eqb (r .kind) 8) (readingOf 8 (value (r .b)) r ++ readingsIn value (some (r .b)) rs)
-    (cond (eqb (r .kind) 9) (readingOf 9 (value (r .b)) r ++ readingsIn value who rs)
-    (cond (eqb (r .kind) 12) (readingOf 12 (valueOf value who) r ++ readingsIn value who rs)
-    (readingsIn value who rs)))
+readingsIn value who (r ∷ rs) = readingsAt value who r ++ readingsIn value (concernedAfter who r) rs
 
 -- a 13 concerns the plaintext of the proposer that it names, in its batch's epoch
 unfoldable pub readingsOf13 : (ℕ → Option ℕ) → List Rec → List Reading

@@ -30,8 +30,7 @@ lastOutputIn (r ∷ rs) =
 -- "the last output of the first […] answer for it that has an output", of the kinds that `is` tells
 unfoldable pub firstTaken : (ℕ → Bool) → ℕ → List Rec → Option ℕ
 firstTaken is p [] = none
-firstTaken is p (r ∷ rs) =
-    cond (is (r .kind) && eqb (r .b) p) (orElse (lastOutputIn rs) (firstTaken is p rs)) (firstTaken is p rs)
+firstTaken is p (r ∷ rs) = orElse (cond (is (r .kind) && eqb (r .b) p) (lastOutputIn rs) none) (firstTaken is p rs)
 
 -- "the value taken for a proposer is the last output of the first kind 3 or 4 answer for it that has an output"
 abbrev pub ofValue : ℕ → Bool
