@@ -19,9 +19,17 @@ partEntries content proposer kind a b =
     cond (eqb kind 16) (message content proposer b ∷ [])
     (cond (eqb kind 17) (fault (content + 7) a b ∷ []) [])
 
+-- the output of one part
+unfoldable pub outputOf : ℕ → ℕ → Output
+outputOf kind b = cond (eqb kind 18) (Value b) Missing
+
 -- "Of several outputs the last counts, as `pop` does"
+unfoldable pub lastOf : Output → Output → Output
+lastOf earlier Missing = earlier
+lastOf earlier (Value b) = Value b
+
 unfoldable pub lastOutput : Output → ℕ → ℕ → Output
-lastOutput output kind b = cond (eqb kind 18) (Value b) output
+lastOutput output kind b = lastOf output (outputOf kind b)
 
 -- what parts come to: the last output, where the reader stands, and the entries
 pub record Told : Type 0 where

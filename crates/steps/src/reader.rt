@@ -4,7 +4,7 @@ ghost use Prim.Native.Nat.{_≤_};
 ghost use Rattle.steps.specs.Answers.{chain, tapeAt, asked, headOf, ask, askAbout};
 ghost use Rattle.steps.specs.Steps.{out, putAll};
 ghost use Rattle.steps.specs.Runs.{leaves};
-ghost use Rattle.steps.specs.Parts.{isPart, partEntries, lastOutput, left, readParts};
+ghost use Rattle.steps.specs.Parts.{isPart, partEntries, outputOf, lastOf, lastOutput, left, readParts};
 use crate::step::Step;
 
 // What stands at a place of the answer table.
@@ -135,14 +135,31 @@ fn part_entry(
     step
 }
 
-// Of several outputs the last counts, as `pop` does.
-fn last_output(output: Output, kind: u64, b: u64) -> Output
-    ensures { λ r. ⌜ r ≡ lastOutput output kind b ⌝ }
+// The output of one part.
+fn output_of(kind: u64, b: u64) -> Output
+    ensures { λ r. ⌜ r ≡ outputOf kind b ⌝ }
 {
     if kind == 18 {
         return Output::Value(b);
     }
-    output
+    Output::Missing
+}
+
+// Of several outputs the last counts, as `pop` does.
+fn last_of(earlier: Output, later: Output) -> Output
+    ensures { λ r. ⌜ r ≡ lastOf earlier later ⌝ }
+{
+    match later {
+        Output::Missing => earlier,
+        Output::Value(_) => later,
+    }
+}
+
+fn last_output(output: Output, kind: u64, b: u64) -> Output
+    ensures { λ r. ⌜ r ≡ lastOutput output kind b ⌝ }
+{
+    let part = output_of(kind, b);
+    last_of(output, part)
 }
 
 // Reads the parts of an answer to their end.
