@@ -6,3 +6,5 @@ pub mod Create
 pub mod History
 pub mod Claim
 pub mod Rule
+pub mod Opened
+pub mod Pair

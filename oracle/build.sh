@@ -1,0 +1,16 @@
+#!/bin/sh
+# Copies the thirteen originals, compares them byte for byte and builds the oracle, offline.
+# usage: oracle/build.sh [folder with the originals, default ../shared/docs/src/src]
+# The folder may also hold them side by side, under names like src--src--subset--subset.rs.txt.
+set -eu
+here=$(cd "$(dirname "$0")" && pwd)
+from=${1:-$here/../../shared/docs/src/src}
+mkdir -p "$here/originals/subset" "$here/originals/honey_badger"
+while read -r name; do
+    source=$from/$name
+    [ -e "$source" ] || source=$from/src--src--$(echo "$name" | sed 's|/|--|g').txt
+    cmp -s "$source" "$here/originals/$name" || cp -f "$source" "$here/originals/$name"
+    cmp "$source" "$here/originals/$name"
+done < "$here/originals.txt"
+cd "$here"
+exec cargo build --release --offline --quiet -j "${JOBS:-1}"

@@ -1,0 +1,144 @@
+//! The original as oracle: see `README.md`.
+
+mod chooser;
+mod command;
+mod count;
+mod damage;
+mod generate;
+mod guide;
+mod oracle;
+mod pairs;
+mod random;
+mod raw;
+mod record;
+mod state;
+mod table;
+mod tree;
+
+use std::error::Error;
+use std::io::{self, Write};
+
+const USAGE: &str = "usage: oracle command
+       oracle check FILE...
+       oracle generate CLASS SEED RUNS CALLS [binary|text|count]
+       oracle replay [--no-state] FILE...
+       oracle text FILE
+       oracle count FILE...
+       oracle pairs FILE...";
+
+fn main() {
+    // Panics of the original are caught and reported with the call; ours are to be seen.
+    std::panic::set_hook(Box::new(|info| {
+        if info.location().map_or(false, |place| place.file().starts_with("runs/")) {
+            eprintln!("{}", info);
+        }
+    }));
+    let args: Vec<String> = std::env::args().skip(1).collect();
+    let args: Vec<&str> = args.iter().map(String::as_str).collect();
+    if let Err(error) = start(&args) {
+        eprintln!("{}", error);
+        std::process::exit(1);
+    }
+}
+
+fn start(args: &[&str]) -> Result<(), Box<dyn Error>> {
+    match args {
+        ["command"] => Ok(command::run()?),
+        ["check", files @ ..] => {
+            for file in files {
+                let result = command::check(&std::fs::read_to_string(file)?);
+                let compared = result.map_err(|text| format!("{}: {}", file, text))?;
+                println!("{}: {} lines as expected", file, compared);
+            }
+            Ok(())
+        }
+        ["generate", class, seed, runs, calls] => generate(class, seed, runs, calls, "binary"),
+        ["generate", class, seed, runs, calls, form] => generate(class, seed, runs, calls, form),
+        ["replay", "--no-state", files @ ..] => replay(files, false),
+        ["replay", files @ ..] => replay(files, true),
+        ["text", file] => Ok(print!("{}", record::text(&record::read(file)?)?)),
+        ["count", files @ ..] => {
+            let mut columns = Vec::new();
+            for file in files {
+                columns.push((file.to_string(), count::count(&record::read(file)?)));
+            }
+            print_counts(&columns);
+            Ok(())
+        }
+        ["pairs", files @ ..] => {
+            for file in files {
+                let common = pairs::common_batches(&record::read(file)?)?;
+                println!("{}: {} batches in both runs of a pair, all equal", file, common);
+            }
+            Ok(())
+        }
+        _ => Err(USAGE.into()),
+    }
+}
+
+fn generate(
+    class: &str,
+    seed: &str,
+    runs: &str,
+    calls: &str,
+    form: &str,
+) -> Result<(), Box<dyn Error>> {
+    let found = generate::CLASSES.iter().find(|x| x.name == class);
+    let chosen: Vec<&generate::Class> = match (class, found) {
+        (_, Some(found)) => vec![found],
+        ("all", _) => generate::CLASSES.iter().collect(),
+        _ => return Err(USAGE.into()),
+    };
+    let (seed, runs, calls) = (seed.parse()?, runs.parse::<u64>()?, calls.parse()?);
+    let mut columns: Vec<_> =
+        chosen.iter().map(|x| (x.name.to_string(), count::Counts::new())).collect();
+    let mut out = io::stdout();
+    for index in 0..runs {
+        // With several classes the runs are dealt out in turn, two by two.
+        let which = (index / 2) as usize % chosen.len();
+        let place = index / 2 / chosen.len() as u64 * 2 + index % 2;
+        let records = generate::run(chosen[which], seed, place, calls)
+            .map_err(|trouble| format!("run {}: {}", index, trouble))?;
+        match form {
+            "binary" => out.write_all(&record::bytes(&records))?,
+            "text" => out.write_all(record::text(&records)?.as_bytes())?,
+            "count" => {
+                for (row, number) in count::count(&records) {
+                    *columns[which].1.entry(row).or_default() += number;
+                }
+            }
+            _ => return Err(USAGE.into()),
+        }
+    }
+    if form == "count" {
+        print_counts(&columns);
+    }
+    Ok(())
+}
+
+fn replay(files: &[&str], with_state: bool) -> Result<(), Box<dyn Error>> {
+    for file in files {
+        let records = record::read(file)?;
+        record::replay(&records, with_state).map_err(|text| format!("{}: {}", file, text))?;
+        println!("{}: {} records, no difference", file, records.len());
+    }
+    Ok(())
+}
+
+/// One row for each thing, one column for each class or file, and the sum.
+fn print_counts(columns: &[(String, count::Counts)]) {
+    let names: Vec<_> = columns.iter().map(|(name, _)| file_name(name)).collect();
+    println!("| | {} | all |", names.join(" | "));
+    println!("|---|{}", "--:|".repeat(columns.len() + 1));
+    for row in count::rows() {
+        let numbers: Vec<u64> =
+            columns.iter().map(|(_, counts)| counts.get(&row).copied().unwrap_or(0)).collect();
+        let texts: Vec<_> = numbers.iter().map(u64::to_string).collect();
+        println!("| {} | {} | {} |", row, texts.join(" | "), numbers.iter().sum::<u64>());
+    }
+}
+
+fn file_name(path: &str) -> &str {
+    let name = path.rsplit('/').next().unwrap_or(path);
+    name.strip_suffix(".bin").unwrap_or(name)
+}
