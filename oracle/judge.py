@@ -26,7 +26,7 @@ JUDGE = """-- What a run of the original was given and what it made of it, and w
 use Prim.Native.Nat.{ℕ, zero, suc, _+_, _*_}
 use mathlib.Core.List.{List, [], _∷_, _++_}
 use mathlib.Core.Bool.{Bool, true, false, cond, _&&_}
-use lib.ListN.{length, drop, replicate}
+use lib.ListN.{length, drop, set, replicate}
 use lib.Dec.{eqb, leb}
 use Rattle.engine.specs.State.{stateLength}
 use Rattle.engine.specs.Create.{Numbers, createReply, createState}
@@ -99,6 +99,12 @@ agrees w r a =
     && same (a .scratch) (wholeScratch w (r .op))
     && cond (eqb (r .length) 0) true (same (queried (a .state)) (r .queries) && eqb (length (a .state)) (r .length) && same (others 0 (a .state)) (r .words))
 
+-- a state from its length and its words other than 0
+unfoldable pub filled : ℕ → List ℕ → List ℕ
+filled n [] = replicate n 0
+filled n (i ∷ []) = replicate n 0
+filled n (i ∷ (x ∷ rest)) = set (filled n rest) i x
+
 -- 0 where all rows agree, else the number of the first that does not
 unfoldable pub firstBad : ℕ → List ℕ → List Row → ℕ
 firstBad i w [] = 0
@@ -140,10 +146,10 @@ def make_repository(folder):
     for layer in LAYERS:
         source, made = ROOT / "crates" / layer, folder / "crates" / layer
         shutil.copytree(source / "specs", made / "specs")
-        for name in ("Cases", "Pair"):  # computed of the definitions, and not a part of them
+        for name in ("Cases", "Pair", "Opened"):  # computed of the definitions, and not a part of them
             (made / "specs" / f"{name}.antt").unlink(missing_ok=True)
         lib = made / "specs" / "Lib.antt"
-        lib.write_text("".join(line for line in lib.read_text().splitlines(True) if not re.match(r"pub mod (Cases|Pair)$", line.strip())))
+        lib.write_text("".join(line for line in lib.read_text().splitlines(True) if not re.match(r"pub mod (Cases|Pair|Opened)$", line.strip())))
         for file in (source / "src").rglob("*.rt"):
             target = made / "src" / file.relative_to(source / "src")
             target.parent.mkdir(parents=True, exist_ok=True)
@@ -206,14 +212,34 @@ def row_term(row):
             f"length = {len(row.state)}; words = {words(places)} }}")
 
 
+def state_term(row):
+    places = [x for i, word in enumerate(row.state) if word for x in (i, word)]
+    return f"(filled {len(row.state)} {words(places)})"
+
+
+def parts(run):
+    """A run in parts that the checker computes within its limit of steps, each with the row whose state it starts from."""
+    start, part, weight = None, [], 0
+    for row in run:
+        weight += max(len(row.state), 200)
+        if part and weight > 9000:
+            yield start, part
+            start, part, weight = part[-1], [], len(row.state)
+        part.append(row)
+    yield start, part
+
+
 def run_module(runs):
     text = ["use Prim.Native.Nat.{ℕ}", "use mathlib.Core.Path.{_≡_, refl}", "use mathlib.Core.List.{List, [], _∷_}",
-            "use Rattle.judged.specs.Judge.{create, propose, message, skip, Row, firstBad}",
+            "use Rattle.judged.specs.Judge.{create, propose, message, skip, Row, filled, firstBad}",
             "use Rattle.judged.specs.Opened.{opened}", ""]
     for number, run in enumerate(runs):
-        rows = "\n    ∷ ".join(row_term(row) for row in run)
-        text.append(f"abbrev run{number} : List Row\nrun{number} =\n    {rows}\n    ∷ []\n")
-        text.append(f"agrees{number} : firstBad 1 [] run{number} ≡ 0\nunfolding opened\nagrees{number} = refl\n")
+        for place, (start, part) in enumerate(parts(run)):
+            name = f"{number}-{place}"
+            rows = "\n    ∷ ".join(row_term(row) for row in part)
+            first = state_term(start) if start else "[]"
+            text.append(f"abbrev run{name} : List Row\nrun{name} =\n    {rows}\n    ∷ []\n")
+            text.append(f"agrees{name} : firstBad 1 {first} run{name} ≡ 0\nunfolding opened\nagrees{name} = refl\n")
     return "\n".join(text)
 
 
@@ -262,7 +288,8 @@ def main():
                 count(counts, part)
             else:
                 bad += 1
-                print(f"{what}: runs {first} to {first + len(part) - 1}: DIFFERENT\n{ran.stdout[:3000]}", flush=True)
+                errors = [line[:400] for line in ran.stdout.split("\n") if "error" in line]
+                print(f"{what}: runs {first} to {first + len(part) - 1}: NOT SHOWN", *errors, sep="\n", flush=True)
     for name, number in sorted(counts.items(), key=lambda x: [int(w) if w.isdigit() else w for w in re.split(r"(\d+)", x[0])]):
         print(f"{number:7} {name}")
     if not args.keep:
