@@ -146,10 +146,10 @@ def make_repository(folder):
     for layer in LAYERS:
         source, made = ROOT / "crates" / layer, folder / "crates" / layer
         shutil.copytree(source / "specs", made / "specs")
-        for name in ("Cases", "Pair", "Opened"):  # computed of the definitions, and not a part of them
+        for name in ("Cases", "Further", "Pair", "Opened"):  # computed of the definitions, and not a part of them
             (made / "specs" / f"{name}.antt").unlink(missing_ok=True)
         lib = made / "specs" / "Lib.antt"
-        lib.write_text("".join(line for line in lib.read_text().splitlines(True) if not re.match(r"pub mod (Cases|Pair|Opened)$", line.strip())))
+        lib.write_text("".join(line for line in lib.read_text().splitlines(True) if not re.match(r"pub mod (Cases|Further|Pair|Opened)$", line.strip())))
         for file in (source / "src").rglob("*.rt"):
             target = made / "src" / file.relative_to(source / "src")
             target.parent.mkdir(parents=True, exist_ok=True)

@@ -6,10 +6,11 @@ use mathlib.Core.Bool.{true, false}
 use mathlib.Core.Option.{none, some}
 use lib.ListN.{set, replicate}
 use Rattle.steps.specs.declared.network_info.NetworkInfo.{NetworkInfo}
-use Rattle.steps.specs.Answers.{tape, link, recAt, onRecord, walk, chain, tapeAt, askFor, ask, askAbout}
+use Rattle.steps.specs.Answers.{tape, tapeAt}
 use Rattle.steps.specs.Steps.{message, fault}
-use Rattle.steps.specs.Runs.{going, refused, failed, ends, before, onwardAs, onward, heardAs, heard}
-use Rattle.decryption.specs.Decrypt.{new, withCiphertext, withEnd, countFrom, setCiphertext, checkShare, removeFrom, ownShare, startWith, combine, tryWith, startDecryption, tryOutput, storeShare, handleMessage}
+use Rattle.steps.specs.Runs.{going, refused, failed, ends, before}
+use Rattle.decryption.specs.Decrypt.{new, withCiphertext, withEnd, setCiphertext, startDecryption, handleMessage}
+use Rattle.decryption.specs.Opened.{opened}
 use Rattle.decryption.specs.declared.ThresholdDecrypt.{ThresholdDecrypt}
 
 -- four nodes, f 1
@@ -43,11 +44,6 @@ share-3 = 1 ∷ 0 ∷ 0 ∷ 0 ∷ 2 ∷ 10 ∷ 1 ∷ 3 ∷ 0 ∷ 12 ∷ 1 ∷ 7 
 
 abbrev share-3-alone : List ℕ
 share-3-alone = 1 ∷ 0 ∷ 0 ∷ 0 ∷ 0 ∷ 10 ∷ 1 ∷ 3 ∷ []
-
--- the definitions that a case computes with: a line `unfolding opened` opens them all
-opened : Unit {0}
-unfolding link recAt onRecord walk chain askFor ask askAbout onwardAs onward heardAs heard countFrom setCiphertext checkShare removeFrom ownShare startWith combine tryWith startDecryption tryOutput storeShare handleMessage
-opened = tt
 
 -- 7. f 1, observer, ciphertext set: one valid share combines nothing, and kind 12 stays unread
 case-7-first : handleMessage observer 0 2 31 (started noShares) (tapeAt share-2 1) ≡ ends (going none) (started (set noShares 2 31)) (tapeAt share-2 2)

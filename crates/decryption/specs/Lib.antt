@@ -1,3 +1,4 @@
 pub mod Outcomes
 pub mod Decrypt
+pub mod Opened
 pub mod Cases

@@ -1,1 +1,7 @@
+pub mod Bools
+pub mod Fails
+pub mod Refusals
+pub mod Schedules
+pub mod Created
+pub mod Skips
 pub mod Pair

@@ -3,8 +3,11 @@ pub mod State
 pub mod HoneyBadger
 pub mod Calls
 pub mod Create
+pub mod Laws
 pub mod History
 pub mod Claim
 pub mod Rule
 pub mod Opened
+pub mod Cases
+pub mod Further
 pub mod Pair

@@ -5,3 +5,4 @@ pub mod Steps
 pub mod Runs
 pub mod Parts
 pub mod Taken
+pub mod Opened

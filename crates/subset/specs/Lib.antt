@@ -1,4 +1,6 @@
 pub mod Words
 pub mod Proposal
 pub mod Subset
+pub mod Opened
+pub mod Cases
 pub mod Rule

@@ -1,0 +1,204 @@
+-- Every reply is one of those that document 01 lists, and a refusal changes nothing.
+use Prim.Native.Nat.{ℕ, _+_, _/_, _≤_, _<_}
+use native.Mathlib.Omega.{arith}
+use mathlib.Core.Path.{_≡_, refl, sym, ap, _∙_}
+use mathlib.Core.List.{List, [], _∷_, _++_}
+use mathlib.Core.Bool.{Bool, true, false, cond, not, and-false}
+use lib.Dec.{eqb, leb, ltb}
+use lib.ListN.{length, getD, drop, replicate, length-append, length-drop, length-replicate, getD-replicate, List·getD-append}
+use lib.Seq.{drop-at}
+use borrow.Author.Tests.{eqb-true, ltb-false, lt-leb, ne-eqb}
+use Rattle.steps.specs.Answers.{tapeOf}
+use Rattle.steps.specs.Runs.{Verdict, going, refused, failed, Run}
+use Rattle.steps.specs.Table.{tableOk}
+use Rattle.engine.specs.State.{nodes, currentEpoch, faultsAt, lastEpoch, stateLength, stateOk}
+use Rattle.engine.specs.HoneyBadger.{hasInput, receivedProposals}
+use Rattle.engine.specs.Calls.{After, after, zeroed, isEnd, concludeAs, conclude, proposeCall, contentOk, messageCall, skipReply, skipState, queryReply, currentEpochResult, hasInputResult, receivedProposalsResult, faultCountResult}
+use Rattle.engine.specs.Create.{Numbers, numbersOk, createReply, createState}
+use Rattle.engine.specs.Laws.{isRefusal, oneOf, proposeFailures, proposeReplies, messageFailures, messageReplies, Promised}
+use Rattle.engine.proofs.Bools.{never}
+use Rattle.engine.proofs.Fails.{Meant, Only, only-propose, only-message}
+
+-- numbers of a list
+more : (y : ℕ) (ys : List ℕ) (x : ℕ) → oneOf ys x ≡ true → oneOf (y ∷ ys) x ≡ true
+unfolding oneOf
+more y ys x h = go (eqb x y)
+  where
+    go : (t : Bool) → cond t true (oneOf ys x) ≡ true
+    go true = refl
+    go false = h
+
+more-by : (ys zs : List ℕ) (x : ℕ) → oneOf zs x ≡ true → oneOf (ys ++ zs) x ≡ true
+more-by [] zs x h = h
+more-by (y ∷ ys) zs x h = more y (ys ++ zs) x (more-by ys zs x h)
+
+abbrev AllHigh : List ℕ → Type 0
+AllHigh [] = Unit {0}
+AllHigh (y ∷ ys) = (20 ≤ y) × AllHigh ys
+
+high : (ys : List ℕ) (x : ℕ) → AllHigh ys → oneOf ys x ≡ true → 20 ≤ x
+unfolding oneOf
+high [] x a h = never (sym h)
+high (y ∷ ys) x a h = go (eqb x y) refl h (high ys x (a .1))
+  where
+    go : (t : Bool) → eqb x y ≡ t → cond t true (oneOf ys x) ≡ true → (oneOf ys x ≡ true → 20 ≤ x) → 20 ≤ x
+    go true e k ih = omega (arith, eqb-true x y e, a .0)
+    go false e k ih = ih k
+
+-- a call, by its branches
+module _ (calls failures : List ℕ) (state scratch step : List ℕ) where
+  abbrev Fine : After → Type 0
+  Fine r = Promised (calls ++ failures) state scratch step r
+
+  fine-cond : (t : Bool) {x y : After} → (t ≡ true → Fine x) → (t ≡ false → Fine y) → Fine (cond t x y)
+  fine-cond true h k = h refl
+  fine-cond false h k = k refl
+
+  -- a refusal, or success, with the scratch zeroed
+  module _ (room : length state ≤ length scratch) where
+    fine-refusal : (n : ℕ) → oneOf (calls ++ failures) n ≡ true → oneOf (3 ∷ 4 ∷ []) n ≡ false → Fine (after n state (zeroed state scratch) step)
+    fine-refusal n l o = record { listed = l; refusal = λ _. (refl, refl); zeros = rw o; room = λ _. room }
+
+    fine-end : (n : ℕ) (state′ step′ : List ℕ) → oneOf (calls ++ failures) n ≡ true → oneOf (3 ∷ 4 ∷ []) n ≡ false → isRefusal n ≡ false
+        → Fine (after n state′ (zeroed state scratch) step′)
+    fine-end n state′ step′ l o i =
+        record { listed = l; refusal = λ h. never (sym h ∙ i); zeros = rw o; room = λ _. room }
+
+    low-not : (n : ℕ) → 20 ≤ n → oneOf (3 ∷ 4 ∷ []) n ≡ false
+    unfolding oneOf
+    low-not n h = rw (ne-eqb n 3 (λ e. omega arith), ne-eqb n 4 (λ e. omega arith))
+
+    refusal-not : (n : ℕ) → 20 ≤ n → isRefusal n ≡ false
+    refusal-not n h = rw (lt-leb n 12 (omega arith)) (and-false (leb 1 n))
+
+    module _ (l-0 : oneOf (calls ++ failures) 0 ≡ true) (l-8 : oneOf (calls ++ failures) 8 ≡ true) (l-9 : oneOf (calls ++ failures) 9 ≡ true)
+        (l-10 : oneOf (calls ++ failures) 10 ≡ true) (far : AllHigh failures) where
+      fine-conclude : (r : Run (List ℕ) (Unit {0})) (epoch : ℕ) → Only (oneOf failures) r → Fine (conclude r epoch state (zeroed state scratch) step)
+      unfolding concludeAs oneOf
+      fine-conclude r epoch h = go (r .verdict) (h .fails)
+        where
+          go : (v : Verdict (Unit {0})) → Meant (oneOf failures) v → Fine (concludeAs v r epoch state (zeroed state scratch) step)
+          go refused m = fine-refusal 8 l-8 refl
+          go (going _) m =
+              fine-cond (isEnd (r .tape .rest))
+              (λ _. fine-cond (leb (1 + length (r .log)) (length step / 4)) (λ _. fine-end 0 _ _ l-0 refl refl) (λ _. fine-refusal 10 l-10 refl))
+              (λ _. fine-refusal 9 l-9 refl)
+          go (failed error) m =
+              fine-cond (isEnd (r .tape .rest))
+              (λ _. fine-cond (leb 1 (length step / 4))
+              (λ _. fine-end error _ _ (more-by calls failures error m) (low-not error (high failures error far m)) (refusal-not error (high failures error far m)))
+              (λ _. fine-refusal 10 l-10 refl))
+              (λ _. fine-refusal 9 l-9 refl)
+
+-- PROPOSE
+abbrev proposeCalls : List ℕ
+proposeCalls = 0 ∷ 3 ∷ 4 ∷ 5 ∷ 6 ∷ 8 ∷ 9 ∷ 10 ∷ []
+
+pub propose-promised : (state scratch answers step : List ℕ) → Promised proposeReplies state scratch step (proposeCall state scratch answers step)
+unfolding proposeCall oneOf
+propose-promised state scratch answers step =
+    fine (not (stateOk state)) (λ _. record { listed = refl; refusal = λ _. (refl, refl); zeros = refl; room = never })
+    (λ _. fine (ltb (length scratch) (length state)) (λ _. record { listed = refl; refusal = λ _. (refl, refl); zeros = refl; room = never })
+    (λ l. let room : length state ≤ length scratch = ltb-false _ _ l in
+    fine (not (tableOk (nodes state) answers)) (λ _. turned room 5 refl refl)
+    (λ _. fine (ltb lastEpoch (currentEpoch state)) (λ _. turned room 6 refl refl)
+    (λ _. fine-conclude proposeCalls proposeFailures state scratch step room refl refl refl refl far
+    _ (currentEpoch state) (only-propose (oneOf proposeFailures) refl refl refl refl refl state (tapeOf answers))))))
+  where
+    fine : (t : Bool) {x y : After} → (t ≡ true → Promised proposeReplies state scratch step x) → (t ≡ false → Promised proposeReplies state scratch step y) → Promised proposeReplies state scratch step (cond t x y)
+    fine = fine-cond proposeCalls proposeFailures state scratch step
+
+    turned : length state ≤ length scratch → (n : ℕ) → oneOf proposeReplies n ≡ true → oneOf (3 ∷ 4 ∷ []) n ≡ false → Promised proposeReplies state scratch step (after n state (zeroed state scratch) step)
+    turned = fine-refusal proposeCalls proposeFailures state scratch step
+
+    far : AllHigh proposeFailures
+    far = (omega arith, (omega arith, (omega arith, (omega arith, (omega arith, tt)))))
+
+-- MESSAGE
+abbrev messageCalls : List ℕ
+messageCalls = 0 ∷ 3 ∷ 4 ∷ 5 ∷ 6 ∷ 7 ∷ 8 ∷ 9 ∷ 10 ∷ 11 ∷ []
+
+pub message-promised : (state scratch answers step : List ℕ) (sender epoch content proposer item : ℕ)
+    → Promised messageReplies state scratch step (messageCall state scratch answers step sender epoch content proposer item)
+unfolding messageCall oneOf
+message-promised state scratch answers step sender epoch content proposer item =
+    fine (not (stateOk state)) (λ _. record { listed = refl; refusal = λ _. (refl, refl); zeros = refl; room = never })
+    (λ _. fine (ltb (length scratch) (length state)) (λ _. record { listed = refl; refusal = λ _. (refl, refl); zeros = refl; room = never })
+    (λ l. let room : length state ≤ length scratch = ltb-false _ _ l in
+    fine (not (tableOk (nodes state) answers)) (λ _. turned room 5 refl refl)
+    (λ _. fine (leb (nodes state) sender) (λ _. turned room 11 refl refl)
+    (λ _. fine (not (contentOk state scratch answers step sender epoch content proposer item)) (λ _. turned room 7 refl refl)
+    (λ _. fine (ltb lastEpoch (currentEpoch state)) (λ _. turned room 6 refl refl)
+    (λ _. fine-conclude messageCalls messageFailures state scratch step room refl refl refl refl far
+    _ epoch (only-message (oneOf messageFailures) refl refl refl refl sender epoch proposer _ state (tapeOf answers))))))))
+  where
+    fine : (t : Bool) {x y : After} → (t ≡ true → Promised messageReplies state scratch step x) → (t ≡ false → Promised messageReplies state scratch step y) → Promised messageReplies state scratch step (cond t x y)
+    fine = fine-cond messageCalls messageFailures state scratch step
+
+    turned : length state ≤ length scratch → (n : ℕ) → oneOf messageReplies n ≡ true → oneOf (3 ∷ 4 ∷ []) n ≡ false → Promised messageReplies state scratch step (after n state (zeroed state scratch) step)
+    turned = fine-refusal messageCalls messageFailures state scratch step
+
+    far : AllHigh messageFailures
+    far = (omega arith, (omega arith, (omega arith, (omega arith, tt))))
+
+-- SCRATCH: "the first state-length words of scratch are zero, the rest untouched"
+module _ (state scratch : List ℕ) where
+  pub zeroed-length : length state ≤ length scratch → length (zeroed state scratch) ≡ length scratch
+  unfolding zeroed
+  zeroed-length h = simp (length-append, length-replicate, length-drop) (omega arith)
+
+  pub zeroed-first : (i : ℕ) → i < length state → getD (zeroed state scratch) i 0 ≡ 0
+  unfolding zeroed
+  zeroed-first i h =
+      List·getD-append (replicate (length state) 0) (drop (length state) scratch) 0 i (simp length-replicate h)
+      ∙ getD-replicate (length state) i 0 0 h
+
+  pub zeroed-rest : drop (length state) (zeroed state scratch) ≡ drop (length state) scratch
+  unfolding zeroed
+  zeroed-rest = drop-at (replicate (length state) 0) (drop (length state) scratch) (length state) (length-replicate (length state) 0)
+
+-- SKIP and CREATE: a refusal leaves the state, and the reply is one of those listed
+pub skip-refusal : (target : ℕ) (w : List ℕ) → isRefusal (skipReply target w) ≡ true → skipState target w ≡ w
+unfolding skipState
+skip-refusal target w h = rw (ne-eqb (skipReply target w) 0 (λ e. never (sym h ∙ ap isRefusal e)))
+
+pub skip-replies : (target : ℕ) (w : List ℕ) → oneOf (0 ∷ 3 ∷ 12 ∷ []) (skipReply target w) ≡ true
+unfolding skipReply oneOf
+skip-replies target w = go (not (stateOk w)) (ltb lastEpoch target)
+  where
+    go : (s t : Bool) → oneOf (0 ∷ 3 ∷ 12 ∷ []) (cond s 3 (cond t 12 0)) ≡ true
+    go true t = refl
+    go false true = refl
+    go false false = refl
+
+pub create-refusal : (c : Numbers) (w : List ℕ) → isRefusal (createReply c w) ≡ true → createState c w ≡ w
+unfolding createState
+create-refusal c w h = rw (ne-eqb (createReply c w) 0 (λ e. never (sym h ∙ ap isRefusal e)))
+
+pub create-replies : (c : Numbers) (w : List ℕ) → oneOf (0 ∷ 1 ∷ 2 ∷ []) (createReply c w) ≡ true
+unfolding createReply oneOf
+create-replies c w = go (not (numbersOk c)) (eqb (length w) (stateLength (c .nodes) (c .ahead)))
+  where
+    go : (s t : Bool) → oneOf (0 ∷ 1 ∷ 2 ∷ []) (cond s 1 (cond t 0 2)) ≡ true
+    go true t = refl
+    go false true = refl
+    go false false = refl
+
+-- QUERIES: a refusal leaves the result
+pub query-refusal : (w : List ℕ) → isRefusal (queryReply w) ≡ true → (result : ℕ)
+    → (currentEpochResult w result ≡ result) × (hasInputResult w result ≡ result) × (receivedProposalsResult w result ≡ result) × (faultCountResult w result ≡ result)
+unfolding queryReply currentEpochResult hasInputResult receivedProposalsResult faultCountResult
+query-refusal w h result = go (stateOk w) refl h
+  where
+    go : (t : Bool) → stateOk w ≡ t → isRefusal (cond t 0 3) ≡ true
+        → (cond t (currentEpoch w) result ≡ result) × (cond t (cond (hasInput w) 1 0) result ≡ result) × (cond t (receivedProposals w) result ≡ result) × (cond t (getD w faultsAt 0) result ≡ result)
+    go true e h = never (sym h)
+    go false e h = (refl, refl, refl, refl)
+
+pub query-replies : (w : List ℕ) → oneOf (0 ∷ 3 ∷ []) (queryReply w) ≡ true
+unfolding queryReply oneOf
+query-replies w = go (stateOk w)
+  where
+    go : (t : Bool) → oneOf (0 ∷ 3 ∷ []) (cond t 0 3) ≡ true
+    go true = refl
+    go false = refl

@@ -1,0 +1,58 @@
+-- What document 01 says of every call: the words of the laws that proofs/ proves. First the numbers that it lists for each operation.
+use Prim.Native.Nat.{ℕ, _+_, _≤_, _<_}
+use mathlib.Core.Path.{_≡_}
+use mathlib.Core.Logic.{_≢_}
+use mathlib.Core.List.{List, [], _∷_}
+use mathlib.Core.Bool.{Bool, true, false, cond}
+use lib.ListN.{length, getD, replicate}
+use lib.Dec.{eqb}
+use Rattle.steps.specs.Table.{within}
+use Rattle.subset.specs.Words.{epochLength}
+use Rattle.engine.specs.State.{headerLength, nodes, ahead, currentEpoch, epochAt, inputAt, epochWords}
+use Rattle.engine.specs.Calls.{After, zeroed}
+
+-- "1 to 12 turn a call down"
+abbrev pub isRefusal : ℕ → Bool
+isRefusal reply = within 1 12 reply
+
+unfoldable pub oneOf : List ℕ → ℕ → Bool
+oneOf [] x = false
+oneOf (y ∷ ys) x = cond (eqb x y) true (oneOf ys x)
+
+-- "Failures: 20 `CreateSubset`, 21 `ProposeBincode`, 22 `InputSubset`, 24 `Decryption`, 25 `MultipleInputs`"
+abbrev pub proposeFailures : List ℕ
+proposeFailures = 20 ∷ 21 ∷ 22 ∷ 24 ∷ 25 ∷ []
+
+abbrev pub proposeReplies : List ℕ
+proposeReplies = 0 ∷ 3 ∷ 4 ∷ 5 ∷ 6 ∷ 8 ∷ 9 ∷ 10 ∷ proposeFailures
+
+-- "Failures 20, 23 `HandleSubsetMessage`, 24, 25."
+abbrev pub messageFailures : List ℕ
+messageFailures = 20 ∷ 23 ∷ 24 ∷ 25 ∷ []
+
+abbrev pub messageReplies : List ℕ
+messageReplies = 0 ∷ 3 ∷ 4 ∷ 5 ∷ 6 ∷ 7 ∷ 8 ∷ 9 ∷ 10 ∷ 11 ∷ messageFailures
+
+-- of a propose or message, whatever words are lent
+pub record Promised (replies state scratch step : List ℕ) (r : After) : Type 0 where
+  -- the reply is one of those that are listed
+  pub listed : oneOf replies (r .reply) ≡ true
+  -- "1 to 12 turn a call down: state, step table and any result are untouched"
+  pub refusal : isRefusal (r .reply) ≡ true → (r .state ≡ state) × (r .step ≡ step)
+  -- "After any propose or message that passes 4, the first state-length words of scratch are zero, the rest untouched; before that all of it
+  -- is untouched."
+  pub zeros : r .scratch ≡ cond (oneOf (3 ∷ 4 ∷ []) (r .reply)) scratch (zeroed state scratch)
+  pub room : oneOf (3 ∷ 4 ∷ []) (r .reply) ≡ false → length state ≤ length scratch
+
+-- of a skip from state w to an epoch above the current one, which leaves v
+pub record Skipped (target : ℕ) (w v : List ℕ) : Type 0 where
+  pub long : length v ≡ length w
+  pub epoch : currentEpoch v ≡ target
+  pub input : getD v inputAt 0 ≡ 0
+  -- the rest of the header stays
+  pub header : (i : ℕ) → i < headerLength → i ≢ epochAt → i ≢ inputAt → getD v i 0 ≡ getD w i 0
+  -- an epoch that was in the state stays as it is where it is not below the target, else nothing is left of it
+  pub kept : (e : ℕ) → target ≤ e → e < currentEpoch w + ahead w + 1 → epochWords v e ≡ epochWords w e
+  pub cleared : (e : ℕ) → currentEpoch w ≤ e → e < target → e < currentEpoch w + ahead w + 1 → epochWords v e ≡ replicate (epochLength (nodes w)) 0
+  -- an epoch that comes into the state has not begun
+  pub vacant : (e : ℕ) → currentEpoch w + ahead w + 1 ≤ e → e < target + ahead w + 1 → epochWords v e ≡ replicate (epochLength (nodes w)) 0

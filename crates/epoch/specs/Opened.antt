@@ -1,0 +1,19 @@
+-- The definitions that a closed term computes with: a line `unfolding opened` opens them all.
+use Rattle.decryption.specs.Opened as DecryptionOpened
+use Rattle.subset.specs.Opened as SubsetOpened
+use Rattle.epoch.specs.Words
+use Rattle.epoch.specs.Epoch
+use Rattle.epoch.specs.Batch
+
+unfoldable pub opened : Unit {0}
+unfolding DecryptionOpened.opened SubsetOpened.opened
+    Words.hasBit Words.withBit Words.countBits Words.isAccepted Words.accept Words.sharesFrom Words.loadInstance
+    Words.loadDecryption Words.setShares Words.storeEntry Words.storeDecryption Words.allFrom Words.recordInRange
+    Words.recordsInRange Words.epochInRange
+    Epoch.newEpoch Epoch.receivedProposals Epoch.firstContributions Epoch.entryAfter Epoch.unexpectedFrom
+    Epoch.unexpectedShares Epoch.handlesNow Epoch.subsetComplete Epoch.proposalDropped Epoch.processDecryption
+    Epoch.callEntry Epoch.inputCiphertext Epoch.sendDecryptionShare Epoch.handleDecryptionShare Epoch.finishAt
+    Epoch.finishFrom Epoch.handleContribution Epoch.handleFrom Epoch.handleContributions Epoch.processSubset Epoch.handedUp
+    Epoch.callSubset Epoch.propose Epoch.handleMessageContent
+    Batch.isDecrypted Batch.decryptedFrom Batch.isReady Batch.readAt Batch.readFrom Batch.entriesFrom Batch.outputBatch
+opened = tt
