@@ -7,7 +7,7 @@ use lib.ListN.{length, getD, take, drop}
 use lib.Dec.{eqb, leb, ltb}
 use Rattle.steps.specs.Table.{within}
 use Rattle.steps.specs.Answers.{Rec, chain, tapeOf}
-use Rattle.steps.specs.Taken.{orElse, isThere, isTrue, firstTaken, ofValue, ofDecision}
+use Rattle.steps.specs.Taken.{orElse, isThere, isTrue, firstTaken, ofValue, ofDecision, concernedAfter, firstDecrypted, thirteensIn}
 use Rattle.engine.specs.Calls.{proposeCall, messageCall, skipReply, skipState}
 
 -- A CALL with "any answer, step and scratch words"
@@ -128,21 +128,6 @@ valueTaken h e p = taken ofValue h e p
 abbrev pub decisionTaken : List Event → ℕ → ℕ → Option ℕ
 decisionTaken h e p = taken ofDecision h e p
 
--- "12 [concerns] that of the last 8 before it in the call, in a share message that of the message's proposer": the proposer that a 12
--- concerns after a record, where it was `who` before it
-unfoldable pub concernedAfter : Option ℕ → Rec → Option ℕ
-concernedAfter who r = cond (eqb (r .kind) 8) (some (r .b)) who
-
-unfoldable pub concerns : Option ℕ → ℕ → Bool
-concerns none p = false
-concerns (some q) p = eqb q p
-
--- the handle of the first 12 that concerns proposer p
-unfoldable pub firstDecrypted : ℕ → Option ℕ → List Rec → Option ℕ
-firstDecrypted p who [] = none
-firstDecrypted p who (r ∷ rs) =
-    orElse (cond (eqb (r .kind) 12 && concerns who p) (some (r .b)) none) (firstDecrypted p (concernedAfter who r) rs)
-
 unfoldable pub decrypted : List Event → ℕ → ℕ → Option ℕ
 decrypted [] e p = none
 decrypted (x ∷ xs) e p = orElse (cond (eqb (x .epoch) e) (firstDecrypted p (x .shareOf) (x .answers)) none) (decrypted xs e p)
@@ -152,10 +137,6 @@ unfoldable pub plaintext : (ℕ → Bool) → List Event → ℕ → ℕ → Opt
 plaintext encrypted h e p = cond (encrypted e) (decrypted h e p) (valueTaken h e p)
 
 -- THE 13s
-unfoldable pub thirteensIn : List Rec → List Rec
-thirteensIn [] = []
-thirteensIn (r ∷ rs) = cond (eqb (r .kind) 13) (r ∷ []) [] ++ thirteensIn rs
-
 -- how many of the next m proposers, from p on, are "in its epoch […] decided true and [have] a plaintext"
 unfoldable pub countOpen : (ℕ → Option ℕ) → (ℕ → Option ℕ) → ℕ → ℕ → ℕ
 countOpen decision text zero p = 0

@@ -20,9 +20,8 @@ unfolding EpochOpened.opened
     Calls.receivedProposalsResult Calls.faultCountResult
     Create.numbersOk Create.created Create.createReply Create.createState
     History.turnOf History.stateAfter History.turns History.noneFails History.entriesIn History.batchesIn History.fivesIn
-    History.eventsOf History.currentAfter History.history History.taken History.concernedAfter History.concerns
-    History.firstDecrypted History.decrypted History.plaintext History.thirteensIn History.countOpen History.wantedIn
-    History.dealt History.handedOf History.unreadableIn History.proposersIn History.unreadableOf History.readingOf
-    History.valueOf History.readingsAt History.readingsIn History.readingsOf13 History.readingsOfBatches
-    History.readingsOfCalls
+    History.eventsOf History.currentAfter History.history History.taken History.decrypted History.plaintext
+    History.countOpen History.wantedIn History.dealt History.handedOf History.unreadableIn History.proposersIn
+    History.unreadableOf History.readingOf History.valueOf History.readingsAt History.readingsIn History.readingsOf13
+    History.readingsOfBatches History.readingsOfCalls
 opened = tt

@@ -15,4 +15,5 @@ unfolding Table.recordOk Table.contextAfter Table.mayFollow Table.chainOk Table.
     Runs.numberOf Runs.onwardAs Runs.onward Runs.heardAs Runs.heard
     Parts.isPart Parts.partEntries Parts.outputOf Parts.lastOf Parts.lastOutput Parts.partsFrom
     Taken.orElse Taken.isThere Taken.isTrue Taken.lastOutputIn Taken.firstTaken Taken.asked Taken.onesFrom
+    Taken.concernedAfter Taken.concerns Taken.firstDecrypted Taken.thirteensIn
 opened = tt

@@ -1,6 +1,6 @@
--- What a chain of answers tells of an instance: the output that is taken from it (document 01, 'Rules to keep').
+-- What a chain of answers tells: outputs, plaintexts, votes and readings (document 01, 'Rules to keep').
 use Prim.Native.Nat.{ℕ, zero, suc, _+_}
-use mathlib.Core.List.{List, [], _∷_}
+use mathlib.Core.List.{List, [], _∷_, _++_}
 use mathlib.Core.Bool.{Bool, true, false, cond, _&&_, _||_}
 use mathlib.Core.Option.{Option, none, some}
 use lib.Dec.{eqb}
@@ -43,9 +43,29 @@ ofDecision kind = within 5 7 kind
 -- whether an answer of this kind about p was asked for
 unfoldable pub asked : ℕ → ℕ → List Rec → Bool
 asked kind p [] = false
-asked kind p (r ∷ rs) = eqb (r .kind) kind && eqb (r .b) p || asked kind p rs
+asked kind p (r ∷ rs) = (eqb (r .kind) kind && eqb (r .b) p) || asked kind p rs
 
 -- how many of the next m proposers, from p on, are decided true
 unfoldable pub onesFrom : (ℕ → Option ℕ) → ℕ → ℕ → ℕ
 onesFrom decision zero p = 0
 onesFrom decision (suc m) p = cond (isTrue (decision p)) 1 0 + onesFrom decision m (p + 1)
+
+-- "12 [concerns] that of the last 8 before it in the call, in a share message that of the message's proposer": the proposer that a 12
+-- concerns after a record, where it was `who` before it
+unfoldable pub concernedAfter : Option ℕ → Rec → Option ℕ
+concernedAfter who r = cond (eqb (r .kind) 8) (some (r .b)) who
+
+unfoldable pub concerns : Option ℕ → ℕ → Bool
+concerns none p = false
+concerns (some q) p = eqb q p
+
+-- the handle of the first 12 that concerns proposer p
+unfoldable pub firstDecrypted : ℕ → Option ℕ → List Rec → Option ℕ
+firstDecrypted p who [] = none
+firstDecrypted p who (r ∷ rs) =
+    orElse (cond (eqb (r .kind) 12 && concerns who p) (some (r .b)) none) (firstDecrypted p (concernedAfter who r) rs)
+
+-- the 13s of a chain
+unfoldable pub thirteensIn : List Rec → List Rec
+thirteensIn [] = []
+thirteensIn (r ∷ rs) = cond (eqb (r .kind) 13) (r ∷ []) [] ++ thirteensIn rs
