@@ -5,3 +5,4 @@ pub mod Cycle
 pub mod Messages
 pub mod Reading
 pub mod Errors
+pub mod Ranges

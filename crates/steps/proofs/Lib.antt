@@ -1,8 +1,11 @@
+-- What is proved of the definitions, for this crate's proofs and for those above it.
 pub mod Laws
 pub mod Runs
 pub mod Parts
 pub mod Reading
 pub mod Chain
+pub mod Chains
 pub mod Counting
 pub mod Finished
 pub mod ReadBack
+pub mod Ranges

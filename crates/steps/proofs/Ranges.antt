@@ -1,0 +1,248 @@
+-- What is read of an answer table is in range, a run keeps what its parts keep, and words below their limits stay so. Assumes nothing.
+use Prim.Native.Nat.{ℕ, zero, suc, _*_, _/_, _≤_, _<_}
+use mathlib.Core.Path.{_≡_, refl, sym, _∙_}
+use mathlib.Core.List.{List, [], _∷_}
+use mathlib.Core.Bool.{Bool, true, false, cond, _&&_, _||_, false≢true}
+use mathlib.Core.Option.{Option, none, some}
+use native.Mathlib.Omega.{arith}
+use lib.ListN.{length, getD, set, replicate, length-set, length-replicate}
+use lib.Seq.{getD-set-same, getD-set-other, set-out}
+use lib.Dec.{eqb, leb, ltb}
+use borrow.Author.Tests.{eqb-true, eqb-false, leb-true, ltb-true, ltb-false}
+use Rattle.steps.specs.declared.reader.Answer.{Answer}
+use Rattle.steps.specs.declared.reader.Answer.the-variants.{Got, Refused}
+use Rattle.steps.specs.declared.reader.Output.{Output}
+use Rattle.steps.specs.declared.reader.Output.the-variants.{Missing, Value}
+use Rattle.steps.specs.Table.{within, handle, recordOk, word, mayFollow, chainOk, shapeOk, tableOk}
+use Rattle.steps.specs.Answers.{Rec, Tape, tape, link, recAt, chain, tapeOf, Asked, askFor, ask, askAbout}
+use Rattle.steps.specs.Steps.{Entry}
+use Rattle.steps.specs.Runs.{Verdict, going, refused, failed, Run, ends, onwardAs, onward, heardAs, heard, inside}
+use Rattle.steps.specs.Parts.{isPart, outputOf, lastOf, lastOutput, partsFrom, readParts}
+use Rattle.steps.proofs.Laws.{and-true, on-record, off-at-zero, link-up, link-end, chain-on, chain-off}
+use Rattle.steps.proofs.Parts.{parts-on, parts-off}
+use Rattle.steps.proofs.Chain.{follow-facts}
+
+-- A TEST that came out
+pub by-test : {P : Type 0} (x u v : Bool) → cond x u v ≡ true → (x ≡ true → u ≡ true → P) → (x ≡ false → v ≡ true → P) → P
+by-test true u v e f g = f refl e
+by-test false u v e f g = g refl e
+
+pub and-both : (x y : Bool) → x ≡ true → y ≡ true → x && y ≡ true
+and-both x y e f = rw (e, f)
+
+-- THE ANSWERS. In every record but a message, b is below 2^32
+abbrev pub Small : Rec → Type 0
+Small r = (r .kind ≡ 16 → ⊥) → r .b < 4294967296
+
+unfoldable pub AllSmall : List Rec → Type 0
+AllSmall [] = Unit {0}
+AllSmall (r ∷ rs) = Small r × AllSmall rs
+
+handle-below : (b : ℕ) → handle b ≡ true → b < 4294967296
+handle-below b e = let h : b ≤ 4294967295 = leb-true _ _ (and-true (leb 1 b) _ e .1) in omega arith
+
+module _ (n context kind a b : ℕ) (few : n ≤ 16) where
+  record-small : recordOk n context kind a b ≡ true → (kind ≡ 16 → ⊥) → b < 4294967296
+  unfolding recordOk
+  record-small e not =
+      by-test (eqb kind 1) _ _ e (λ _ u. omega (arith, eqb-true b 0 (and-true (leb a 1) _ u .1))) (λ _ e.
+      by-test (eqb kind 2 || eqb kind 12) _ _ e
+      (λ _ u. by-test (eqb a 0) _ _ u (λ _ v. omega (arith, eqb-true b 0 v)) (λ _ v. handle-below b (and-true (eqb a 1) _ v .1)))
+      (λ _ e.
+      by-test (within 3 10 kind || eqb kind 13) _ _ e (λ _ u. omega (arith, ltb-true b n (and-true (leb a 1) _ u .1))) (λ _ e.
+      by-test (eqb kind 11) _ _ e (λ _ u. handle-below b (and-true (eqb a 1) _ u .1)) (λ _ e.
+      by-test (eqb kind 16) _ _ e (λ s u. absurd (not (eqb-true kind 16 s))) (λ _ e.
+      by-test (eqb kind 17) _ _ e (λ _ u. omega (arith, leb-true b 4294967295 (and-true (ltb 0 context && ltb a n) _ u .1))) (λ _ e.
+      by-test (eqb kind 18) _ _ e
+      (λ _ u. by-test (leb context 4) _ _ (and-true (ltb 0 context && eqb a 0) _ u .1) (λ _ v. handle-below b v) (λ _ v. omega (arith, leb-true b 1 v)))
+      (λ _ e. absurd (false≢true e))))))))
+
+-- along the chain of a table that is not malformed
+linked-small : (t : List ℕ) (i : ℕ) → AllSmall (chain t (getD t (i * 4) 0)) → AllSmall (chain t (link t i))
+unfolding AllSmall
+linked-small t i h = go (ltb i (getD t (i * 4) 0)) refl
+  where
+    go : (x : Bool) → ltb i (getD t (i * 4) 0) ≡ x → AllSmall (chain t (link t i))
+    go true e = rw (link-up t i (ltb-true _ _ e)) h
+    go false e = rw (link-end t i (ltb-false _ _ e), chain-off t 0 (off-at-zero t)) tt
+
+chain-small : (fuel n : ℕ) (t : List ℕ) (own i context : ℕ) → n ≤ 16 → chainOk fuel n t own i context ≡ true → AllSmall (chain t i)
+unfolding chainOk AllSmall recAt mayFollow
+chain-small zero n t own i context few e = rw (eqb-true i 0 e, chain-off t 0 (off-at-zero t)) tt
+chain-small (suc fuel) n t own i context few e =
+    by-test (eqb i 0) _ _ e (λ z _. rw (eqb-true i 0 z, chain-off t 0 (off-at-zero t)) tt) (λ _ e.
+    by-test (mayFollow n t own i context) _ _ e
+    (λ m e. here m (linked-small t i (chain-small fuel n t i (getD t (i * 4) 0) _ few e)))
+    (λ _ e. absurd (false≢true e)))
+  where
+    here : mayFollow n t own i context ≡ true → AllSmall (chain t (link t i)) → AllSmall (chain t i)
+    here m h =
+        let f = follow-facts n t own i context m in
+        rw (chain-on t i (on-record t i (omega arith) (f .1))) (fits m, h)
+      where
+        fits : mayFollow n t own i context ≡ true → Small (recAt t i)
+        fits m = record-small n context (word t i 1) (word t i 2) (word t i 3) few (and-true (ltb own i && ltb i (length t / 4)) _ m .1)
+
+pub table-small : (n : ℕ) (t : List ℕ) → n ≤ 16 → tableOk n t ≡ true → AllSmall (tapeOf t .rest)
+unfolding tableOk
+table-small n t few e = by-test (shapeOk t) _ _ e (λ _ c. chain-small (length t) n t 0 _ 0 few c) (λ _ e. absurd (false≢true e))
+
+-- A RUN KEEPS P: its state does, whatever the verdict; the answers left are small; and a value with which it goes on has Q
+unfoldable pub Says : {A : Type 0} → (A → Type 0) → Verdict A → Type 0
+Says Q (going a) = Q a
+Says Q refused = Unit {0}
+Says Q (failed n) = Unit {0}
+
+pub record Kept {S A : Type 0} (P : S → Type 0) (Q : A → Type 0) (r : Run S A) : Type 0 where
+  pub state : P (r .state)
+  pub tape : AllSmall (r .tape .rest)
+  pub value : Says Q (r .verdict)
+
+-- a value of which nothing is said
+abbrev pub Any : {A : Type 0} → A → Type 0
+Any a = Unit {0}
+
+pub says-any : {A : Type 0} (v : Verdict A) → Says Any v
+unfolding Says
+says-any (going a) = tt
+says-any refused = tt
+says-any (failed n) = tt
+
+module _ {S A : Type 0} {P : S → Type 0} {Q : A → Type 0} where
+  pub kept-going : {a : A} {s : S} {p : Tape} → P s → AllSmall (p .rest) → Q a → Kept P Q (ends (going a) s p)
+  unfolding Says
+  kept-going h o v = record { state = h; tape = o; value = v }
+
+  pub kept-refused : {s : S} {p : Tape} → P s → AllSmall (p .rest) → Kept P Q (ends refused s p)
+  unfolding Says
+  kept-refused h o = record { state = h; tape = o; value = tt }
+
+  pub kept-failed : {n : ℕ} {s : S} {p : Tape} → P s → AllSmall (p .rest) → Kept P Q (ends (failed n) s p)
+  unfolding Says
+  kept-failed h o = record { state = h; tape = o; value = tt }
+
+  -- whatever its entries
+  pub kept-before : {l : List Entry} {r : Run S A} → Kept P Q r → Kept P Q (record { state = r .state; verdict = r .verdict; tape = r .tape; log = l })
+  kept-before k = record { state = k .state; tape = k .tape; value = k .value }
+
+  pub kept-cond : (x : Bool) (r s : Run S A) → (x ≡ true → Kept P Q r) → (x ≡ false → Kept P Q s) → Kept P Q (cond x r s)
+  kept-cond true r s f g = f refl
+  kept-cond false r s f g = g refl
+
+  -- after an answer, whose b is small
+  heard-kept : (q : Asked) (s : S) (k : ℕ → ℕ → Tape → Run S A) → P s → AllSmall (q .tape .rest)
+      → ((a b : ℕ) → q .answer ≡ Got a b → Kept P Q (k a b (q .tape))) → Kept P Q (heard q s k)
+  unfolding heard heardAs
+  heard-kept q s k h o f = go (q .answer) refl
+    where
+      go : (x : Answer) → q .answer ≡ x → Kept P Q (heardAs x s (q .tape) k)
+      go (Got a b) e = f a b e
+      go Refused e = kept-refused h o
+
+-- what asking for anything but a message leaves
+record Heard (q : Asked) : Type 0 where
+  tape : AllSmall (q .tape .rest)
+  small : (a b : ℕ) → q .answer ≡ Got a b → b < 4294967296
+
+for-heard : (want : Rec → Bool) → ((r : Rec) → want r ≡ true → r .kind ≡ 16 → ⊥) → (p : Tape) (l : List Rec) → AllSmall (p .rest) → AllSmall l → Heard (askFor want p l)
+unfolding askFor AllSmall
+for-heard want not p [] o h = record { tape = o; small = λ a b e. let z : _≡_ {A = ℕ} 0 1 = cc in absurd (omega arith) }
+for-heard want not p (r ∷ rs) o h = go (want r) refl
+  where
+    go : (x : Bool) → want r ≡ x → Heard (cond x (record { answer = Got (r .a) (r .b); tape = tape (r .next) rs }) (record { answer = Refused; tape = p }))
+    go true e = record { tape = h .1; small = λ a b g. let z : r .b ≡ b = cc in rw z at (h .0 (not r e)) }
+    go false e = record { tape = o; small = λ a b e. let z : _≡_ {A = ℕ} 0 1 = cc in absurd (omega arith) }
+
+module _ {S A : Type 0} {P : S → Type 0} {Q : A → Type 0} where
+  pub kept-ask : (p : Tape) (kind : ℕ) (s : S) (k : ℕ → ℕ → Tape → Run S A) → eqb kind 16 ≡ false → P s → AllSmall (p .rest)
+      → ((a b : ℕ) (q : Tape) → b < 4294967296 → AllSmall (q .rest) → Kept P Q (k a b q)) → Kept P Q (heard (ask p kind) s k)
+  unfolding ask
+  kept-ask p kind s k n h o f =
+      let u = for-heard (λ r. eqb (r .kind) kind) (λ r e z. eqb-false kind 16 n (sym (eqb-true _ _ e) ∙ z)) p (p .rest) o o in
+      heard-kept (ask p kind) s k h (u .tape) (λ a b e. f a b _ (u .small a b e) (u .tape))
+
+  pub kept-about : (p : Tape) (kind who : ℕ) (s : S) (k : ℕ → ℕ → Tape → Run S A) → eqb kind 16 ≡ false → P s → AllSmall (p .rest)
+      → ((a b : ℕ) (q : Tape) → b < 4294967296 → AllSmall (q .rest) → Kept P Q (k a b q)) → Kept P Q (heard (askAbout p kind who) s k)
+  unfolding askAbout
+  kept-about p kind who s k n h o f =
+      let u = for-heard (λ r. eqb (r .kind) kind && eqb (r .b) who) (λ r e z. eqb-false kind 16 n (sym (eqb-true _ _ (and-true (eqb (r .kind) kind) _ e .0)) ∙ z)) p (p .rest) o o in
+      heard-kept (askAbout p kind who) s k h (u .tape) (λ a b e. f a b _ (u .small a b e) (u .tape))
+
+-- Rust's `?`: a refusal or failure stays, with the wider R
+module _ {S A B : Type 0} {P : S → Type 0} {R : S → Type 0} {Q : A → Type 0} {W : B → Type 0} where
+  pub kept-then : (r : Run S A) (k : A → S → Tape → Run S B) → ((s : S) → P s → R s) → Kept P Q r
+      → ((a : A) (s : S) (q : Tape) → P s → AllSmall (q .rest) → Q a → Kept R W (k a s q)) → Kept R W (onward r k)
+  unfolding onward onwardAs Says
+  kept-then r k g h f = go (r .verdict) (h .value)
+    where
+      go : (v : Verdict A) → Says Q v → Kept R W (onwardAs v r k)
+      go (going a) u = kept-before (f a (r .state) (r .tape) (h .state) (h .tape) u)
+      go refused u = record { state = g _ (h .state); tape = h .tape; value = tt }
+      go (failed n) u = record { state = g _ (h .state); tape = h .tape; value = tt }
+
+module _ {S A B : Type 0} {P : S → Type 0} {Q : A → Type 0} {W : B → Type 0} where
+  pub kept-onward : (r : Run S A) (k : A → S → Tape → Run S B) → Kept P Q r
+      → ((a : A) (s : S) (q : Tape) → P s → AllSmall (q .rest) → Q a → Kept P W (k a s q)) → Kept P W (onward r k)
+  kept-onward r k h f = kept-then r k (λ s p. p) h f
+
+-- a run of a small state, as one of the state that it is a part of
+pub kept-inside : {S T A : Type 0} {P : S → Type 0} {R : T → Type 0} {Q : A → Type 0} (put : T → S) (r : Run T A)
+    → ((t : T) → R t → P (put t)) → Kept R Q r → Kept P Q (inside put r)
+kept-inside put r f k = record { state = f _ (k .state); tape = k .tape; value = k .value }
+
+-- THE PARTS of an answer: an output is below 2^32
+unfoldable pub SmallOutput : Output → Type 0
+SmallOutput Missing = Unit {0}
+SmallOutput (Value v) = v < 4294967296
+
+last-small : (o : Output) (r : Rec) → Small r → SmallOutput o → SmallOutput (lastOutput o (r .kind) (r .b))
+unfolding lastOutput outputOf lastOf SmallOutput
+last-small o r h l = go (eqb (r .kind) 18) refl
+  where
+    go : (x : Bool) → eqb (r .kind) 18 ≡ x → SmallOutput (lastOf o (cond x (Value (r .b)) Missing))
+    go true e = h (λ z. omega (arith, eqb-true (r .kind) 18 e))
+    go false e = l
+
+module _ (content proposer : ℕ) where
+  parts-small : (o : Output) (i : ℕ) (l : List Rec) → AllSmall l → SmallOutput o
+      → AllSmall (partsFrom content proposer o i l .tape .rest) × SmallOutput (partsFrom content proposer o i l .output)
+  unfolding partsFrom AllSmall
+  parts-small o i [] h u = (tt, u)
+  parts-small o i (r ∷ rs) h u = go (isPart (r .kind)) refl (parts-small (lastOutput o (r .kind) (r .b)) (r .next) rs (h .1) (last-small o r (h .0) u))
+    where
+      go : (x : Bool) → isPart (r .kind) ≡ x
+          → AllSmall (partsFrom content proposer (lastOutput o (r .kind) (r .b)) (r .next) rs .tape .rest) × SmallOutput (partsFrom content proposer (lastOutput o (r .kind) (r .b)) (r .next) rs .output)
+          → AllSmall (partsFrom content proposer o i (r ∷ rs) .tape .rest) × SmallOutput (partsFrom content proposer o i (r ∷ rs) .output)
+      go true e k = rw (parts-on content proposer o i r rs e) k
+      go false e k = rw (parts-off content proposer o i r rs e) (h, u)
+
+  pub kept-parts : {S : Type 0} {P : S → Type 0} (s : S) (p : Tape) → P s → AllSmall (p .rest) → Kept P SmallOutput (readParts content proposer s p)
+  unfolding Says SmallOutput
+  kept-parts s p h o = let k = parts-small Missing (p .place) (p .rest) o tt in record { state = h; tape = k .0; value = k .1 }
+
+-- a value that is handed up, if there is one, is below 2^32
+unfoldable pub SmallOption : Option ℕ → Type 0
+SmallOption none = Unit {0}
+SmallOption (some x) = x < 4294967296
+
+-- WORDS BELOW THEIR LIMITS: as many as said, word i below the limit of place i
+pub record Below (limit : ℕ → ℕ) (size : ℕ) (w : List ℕ) : Type 0 where
+  pub long : length w ≡ size
+  pub below : (i : ℕ) → getD w i 0 < limit i
+
+pub zeros-at : (m i : ℕ) → getD (replicate {A = ℕ} m 0) i 0 ≡ 0
+zeros-at zero i = refl
+zeros-at (suc m) zero = refl
+zeros-at (suc m) (suc i) = zeros-at m i
+
+module _ (limit : ℕ → ℕ) (size : ℕ) where
+  pub below-set : (w : List ℕ) (i v : ℕ) → Below limit size w → v < limit i → Below limit size (set w i v)
+  below-set w i v h l = record { long = length-set w i v ∙ h .long; below = λ j. go j (eqb j i) refl (ltb i (length w)) refl }
+    where
+      go : (j : ℕ) (x : Bool) → eqb j i ≡ x → (y : Bool) → ltb i (length w) ≡ y → getD (set w i v) j 0 < limit j
+      go j false e y f = rw (getD-set-other w i j v 0 (eqb-false _ _ e)) (h .below j)
+      go j true e true f = rw (eqb-true j i e, getD-set-same w i v 0 (ltb-true _ _ f)) l
+      go j true e false f = rw (set-out w i v (ltb-false _ _ f)) (h .below j)
+
+  pub below-zeros : ((i : ℕ) → 0 < limit i) → Below limit size (replicate size 0)
+  below-zeros h = record { long = length-replicate size 0; below = λ j. rw (zeros-at size j) (h j) }

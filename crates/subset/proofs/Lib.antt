@@ -1,0 +1,11 @@
+-- What is proved of the definitions, for this crate's proofs and for those above it.
+pub mod After
+pub mod Counts
+pub mod Frames
+pub mod Proposals
+pub mod Held
+pub mod Taken
+pub mod Calls
+pub mod Rule
+pub mod Worked
+pub mod Ranges
