@@ -1,5 +1,5 @@
--- THE PAPER'S RULE (Miller et al., CCS 2016, as document 01 words it) over one run of the engine without a failing call, and the range
--- rule over every call. Stated here, owed: a statement without a proof of it claims nothing (docs/EVIDENCE.md).
+-- THE PAPER'S RULE (Miller et al., CCS 2016, as document 01 words it) over one run of the engine without a failing call: `EngineRule`. It is
+-- stated here, owed: a statement without a proof of it claims nothing (docs/EVIDENCE.md). And the range rule over every call, which is proved.
 use Prim.Native.Nat.{ℕ, _+_, _≤_, _<_}
 use mathlib.Core.Path.{_≡_}
 use mathlib.Core.List.{List, [], _∷_, _++_, List·Memᴰ}
@@ -56,7 +56,8 @@ pub record PaperRule (m : Made) : Type 0 where
 abbrev pub EngineRule : Type 0
 EngineRule = (m : Made) → Sound m → PaperRule m
 
--- "no state the engine leaves breaks them": the range rule after create and after every call, failed ones too
+-- "no state the engine leaves breaks them": the range rule after create and after every call, failed ones too. Proved: `create-ok` in
+-- proofs/Created.antt, `calls-in-range` in proofs/Ranges.antt
 abbrev pub CreateInRange : Type 0
 CreateInRange = (c : Numbers) (w : List ℕ) → createReply c w ≡ 0 → stateOk (createState c w) ≡ true
 

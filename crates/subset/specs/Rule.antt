@@ -1,5 +1,5 @@
 -- THE PAPER'S RULE (Miller et al., CCS 2016, as document 01 words it) at the subset layer, over a run of subset calls of one epoch in
--- which no call fails. Values and decisions are read off the answers. Stated here, owed: a statement without a proof of it claims nothing.
+-- which no call fails. Values and decisions are read off the answers. Proved: `subset-rule` in proofs/Rule.antt.
 use Prim.Native.Nat.{ℕ, zero, suc, _+_, _-_, _≤_, _<_}
 use mathlib.Core.Path.{_≡_}
 use mathlib.Core.List.{List, [], _∷_, _++_, List·Memᴰ}
