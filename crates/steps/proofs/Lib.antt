@@ -5,6 +5,7 @@ pub mod Parts
 pub mod Reading
 pub mod Chain
 pub mod Chains
+pub mod Past
 pub mod Counting
 pub mod Finished
 pub mod ReadBack

@@ -23,11 +23,15 @@ use Rattle.subset.specs.Rule.{settledFrom, isOver, SubsetEvent, answers,
 use Rattle.subset.proofs.After.{AfterAs}
 use Rattle.subset.proofs.Proposals.{outputOf}
 use Rattle.subset.proofs.Counts.{countIf}
-use Rattle.subset.proofs.Held.{Held, isOut}
+use Rattle.subset.proofs.Held.{Held, isNew}
 use Rattle.subset.proofs.Calls.{Called, call-ok}
 
 abbrev nothing : ℕ → Option ℕ
 nothing q = none
+
+-- nobody's contribution has been taken out of the list
+abbrev none-old : ℕ → Bool
+none-old q = false
 
 -- what was taken, and then more of a chain
 abbrev after : (ℕ → Bool) → (ℕ → Option ℕ) → List Rec → ℕ → Option ℕ
@@ -35,7 +39,7 @@ after is g ws q = orElse (g q) (firstTaken is q ws)
 
 -- BETWEEN CALLS: the words hold what was taken, and say whether the subset is over
 pub record Known (net : NetworkInfo) (w : List ℕ) (v d : ℕ → Option ℕ) : Type 0 where
-  pub held : Held (net .«num_nodes») w v d
+  pub held : Held none-old (net .«num_nodes») w v d
   pub decided : getD w decidedAt 0 ≡ cond (isOver net v d) 1 0
 
 -- ONE CALL that reads its whole chain
@@ -45,9 +49,9 @@ pub record Next (net : NetworkInfo) (v d : ℕ → Option ℕ) (ws : List Rec) (
   pub voteZero : (q : ℕ) → q < net .«num_nodes» → onesFrom d (net .«num_nodes») 0 < numCorrect net
       → numCorrect net ≤ onesFrom (after (within 5 6) d ws) (net .«num_nodes») 0 → after (within 5 6) d ws q ≡ none → asked 7 q ws ≡ true
 
-next-call : (net : NetworkInfo) (v d : ℕ → Option ℕ) (ws : List Rec) (w′ : List ℕ) → Called net v d ws w′ [] → Next net v d ws w′
+next-call : (net : NetworkInfo) (v d : ℕ → Option ℕ) (ws : List Rec) (w′ : List ℕ) → (done : Bool) → Called none-old net v d ws done w′ [] → Next net v d ws w′
 unfolding orElse firstTaken
-next-call net v d ws w′ c =
+next-call net v d ws w′ done c =
     let values : (q : ℕ) → c .v′ q ≡ after ofValue v ws q = λ q. sym (c .linked .value q ∙ orElse-none (c .v′ q)) in
     let decisions : (q : ℕ) → c .d′ q ≡ after ofDecision d ws q = λ q. sym (c .linked .decision q ∙ orElse-none (c .d′ q)) in
     record {
@@ -57,13 +61,13 @@ next-call net v d ws w′ c =
     }
 
 module _ (net : NetworkInfo) (v d : ℕ → Option ℕ) where
-  read-whole : (ws : List Rec) (w′ : List ℕ) (verdict : Verdict Bool) (p : Tape) (s : List ℕ) → AfterAs verdict s p (λ _ t z. Called net v d ws t (z .rest))
+  read-whole : (ws : List Rec) (w′ : List ℕ) (verdict : Verdict Bool) (p : Tape) (s : List ℕ) → AfterAs verdict s p (λ done t z. Called none-old net v d ws done t (z .rest))
       → wordsAs net verdict (p .rest) s ≡ some w′ → Next net v d ws w′
   unfolding wordsAs
   read-whole ws w′ (going done) p s c e = go (p .rest) c e
     where
-      go : (l : List Rec) → Called net v d ws s l → wordsAs net (going done) l s ≡ some w′ → Next net v d ws w′
-      go [] c e = let z : s ≡ w′ = cc in next-call net v d ws w′ (rw z at c)
+      go : (l : List Rec) → Called none-old net v d ws done s l → wordsAs net (going done) l s ≡ some w′ → Next net v d ws w′
+      go [] c e = let z : s ≡ w′ = cc in next-call net v d ws w′ done (rw z at c)
       go (r ∷ rs) c e = let z : _≡_ {A = ℕ} 0 1 = cc in absurd (omega arith)
   read-whole ws w′ refused p s c e = let z : _≡_ {A = ℕ} 0 1 = cc in absurd (omega arith)
   read-whole ws w′ (failed error) p s c e = let z : _≡_ {A = ℕ} 0 1 = cc in absurd (omega arith)
@@ -79,7 +83,7 @@ one-call : (net : NetworkInfo) (w : List ℕ) (v d : ℕ → Option ℕ) (x : Su
 one-call net w v d x w′ k t e =
     let r = callSubset net (x .call) w (tapeOf (x .table)) in
     read-whole net v d (answers x) w′ (r .verdict) (r .tape) (r .state)
-    (call-ok net w v d (k .held) (tapeOf (x .table)) (table-good (net .«num_nodes») (x .table) t) (k .decided) (x .call)) e
+    (call-ok none-old net w v d (k .held) (tapeOf (x .table)) (table-good (net .«num_nodes») (x .table) t) (k .decided) (x .call)) e
 
 -- A RUN
 abbrev upTo : (ℕ → Bool) → (ℕ → Option ℕ) → List SubsetEvent → ℕ → Option ℕ
@@ -151,40 +155,41 @@ zeros zero i = refl
 zeros (suc m) zero = refl
 zeros (suc m) (suc i) = zeros m i
 
-count-none : (m i : ℕ) → countIf (isOut nothing nothing) m i ≡ 0
+count-none : (old : ℕ → Bool) (m i : ℕ) → countIf (isNew old nothing nothing) m i ≡ 0
 unfolding countIf isThere
-count-none zero i = refl
-count-none (suc m) i = omega (arith, count-none m (i + 1))
+count-none old zero i = refl
+count-none old (suc m) i = omega (arith, count-none old m (i + 1))
 
 unsettled : (m p : ℕ) → 1 ≤ m → settledFrom nothing nothing m p ≡ false
 unfolding settledFrom isThere
 unsettled zero p h = absurd (omega arith)
 unsettled (suc m) p h = refl
 
-blank-over : (net : NetworkInfo) → Network net → isOver net nothing nothing ≡ false
+pub blank-over : (net : NetworkInfo) → Network net → isOver net nothing nothing ≡ false
 unfolding isOver
 blank-over net k = rw (unsettled (net .«num_nodes») 0 (k .some))
 
-blank-known : (net : NetworkInfo) → Network net → Known net (blank (net .«num_nodes»)) nothing nothing
-unfolding loadProposal proposalOf isThere Bit
-blank-known net k = record {
-  held = record {
-    size = length-set (replicate (epochLength n) 0) 0 1 ∙ length-replicate (epochLength n) 0;
-    load = λ q l. rw (word (proposalAt n q) (λ e. omega arith));
-    bits = λ q. tt;
-    count = word countAt (λ e. omega arith) ∙ sym (count-none n 0);
-    listed = λ q l t. absurd (false≢true t);
-    entries = λ i q l e. absurd (omega (arith, word countAt (λ e. omega arith)));
-    once = λ i j l r e. absurd (omega (arith, word countAt (λ e. omega arith)));
-  };
-  decided = word decidedAt (λ e. omega arith) ∙ sym (rw (blank-over net k));
-}
-  where
-    n : ℕ
-    n = net .«num_nodes»
+pub blank-word : (n i : ℕ) → (i ≡ 0 → ⊥) → getD (blank n) i 0 ≡ 0
+blank-word n i ne = getD-set-other (replicate (epochLength n) 0) 0 i 1 0 ne ∙ zeros (epochLength n) i
 
-    word : (i : ℕ) → (i ≡ 0 → ⊥) → getD (blank (net .«num_nodes»)) i 0 ≡ 0
-    word i ne = getD-set-other (replicate (epochLength (net .«num_nodes»)) 0) 0 i 1 0 ne ∙ zeros (epochLength (net .«num_nodes»)) i
+pub blank-held : (old : ℕ → Bool) → ((q : ℕ) → old q ≡ false) → (n : ℕ) → Held old n (blank n) nothing nothing
+unfolding loadProposal proposalOf isThere Bit
+blank-held old f n = record {
+  size = length-set (replicate (epochLength n) 0) 0 1 ∙ length-replicate (epochLength n) 0;
+  load = λ q l. rw (blank-word n (proposalAt n q) (λ e. omega arith));
+  bits = λ q. tt;
+  count = blank-word n countAt (λ e. omega arith) ∙ sym (count-none old n 0);
+  gone = λ q t. absurd (false≢true (sym (f q) ∙ t));
+  listed = λ q l t f. absurd (false≢true t);
+  entries = λ i q l e. absurd (omega (arith, blank-word n countAt (λ e. omega arith)));
+  once = λ i j l r e. absurd (omega (arith, blank-word n countAt (λ e. omega arith)));
+}
+
+blank-known : (net : NetworkInfo) → Network net → Known net (blank (net .«num_nodes»)) nothing nothing
+blank-known net k = record {
+  held = blank-held none-old (λ q. refl) (net .«num_nodes»);
+  decided = blank-word (net .«num_nodes») decidedAt (λ e. omega arith) ∙ sym (rw (blank-over net k));
+}
 
 -- after any run from the blank epoch
 taken-known : (net : NetworkInfo) (h : List SubsetEvent) (w : List ℕ) → Network net → tablesOk (net .«num_nodes») h ≡ true
@@ -251,7 +256,7 @@ module _ (net : NetworkInfo) (w : List ℕ) (v d : ℕ → Option ℕ) (k : Know
   known-handed : (p x : ℕ) → d p ≡ some 1 → v p ≡ some x → p < n → List·Memᴰ (record { proposer = p; value = x }) (contributions n w)
   unfolding isThere
   known-handed p x e f l =
-      let i = k .held .listed p l (rw (e, f)) in
+      let i = k .held .listed p l (rw (e, f)) refl in
       let t : outputOf (v p) (d p) ≡ some (getD w (valueAt n p) 0) = k .held .entries (i .index) p (i .below) (i .who) .1 in
       let here : some x ≡ some (getD w (valueAt n p) 0) = rw (e, f) at t in
       let word : x ≡ getD w (valueAt n p) 0 = cc in

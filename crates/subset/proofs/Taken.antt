@@ -158,7 +158,7 @@ complete-is none (some (suc zero)) b = refl
 complete-is (some v) (some (suc zero)) b = refl
 complete-is v (some (suc (suc d))) b = absurd (omega arith)
 
-module _ (n : ℕ) (w : List ℕ) (v d : ℕ → Option ℕ) (h : Held n w v d) where
+module _ (old : ℕ → Bool) (n : ℕ) (w : List ℕ) (v d : ℕ → Option ℕ) (h : Held old n w v d) where
   pub accepted-ones : (m i : ℕ) → i + m ≤ n → countFrom n accepted m i w ≡ onesFrom d m i
   unfolding countFrom onesFrom
   accepted-ones zero i l = refl

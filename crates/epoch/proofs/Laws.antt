@@ -1,0 +1,348 @@
+-- THE LAWS OF AN EPOCH (`epoch-laws`): a call moves what was taken exactly as the answers that it reads tell, and an epoch that is ready has all of it. Assumes nothing.
+use Prim.Native.Nat.{ℕ, zero, suc, _+_, _^_, _≤_, _<_}
+use mathlib.Core.Path.{_≡_, refl, sym, ap, _∙_}
+use mathlib.Core.Logic.{_⊎_, inl, inr}
+use mathlib.Core.List.{List}
+use mathlib.Core.Bool.{Bool, true, false, cond, false≢true}
+use mathlib.Core.Option.{Option, none, some}
+use native.Mathlib.Omega.{arith}
+use native.Mathlib.Nat.{zero-div}
+use lib.ListN.{getD, replicate, length-replicate}
+use lib.Seq.{getD-set-same}
+use lib.Dec.{eqb}
+use borrow.Author.Tests.{eqb-true, eqb-false}
+use Rattle.steps.specs.declared.network_info.NetworkInfo.{NetworkInfo}
+use Rattle.steps.specs.Network.{Network}
+use Rattle.steps.specs.Answers.{Rec, Tape}
+use Rattle.steps.specs.Runs.{Verdict, going, refused, failed, Run}
+use Rattle.steps.specs.Taken.{orElse, isThere, ofValue, ofDecision}
+use Rattle.steps.proofs.Laws.{and-true}
+use Rattle.steps.proofs.Chains.{Good}
+use Rattle.steps.proofs.Past.{Past, Others, past-first, past-thirteens, past-decrypted, past-good}
+use Rattle.decryption.specs.Decrypt.{handleMessage as handleShare}
+use Rattle.subset.specs.Words.{epochLength, statusAt, decidedAt, acceptedAt, countAt, recordAt}
+use Rattle.subset.specs.Subset.{propose as proposeSubset, handleMessage as handleSubset}
+use Rattle.subset.specs.Rule.{isOver, proposing, broadcasting, agreeing, callSubset as callRule}
+use Rattle.subset.proofs.After.{After, after-map, after-cond, after-onward}
+use Rattle.subset.proofs.Calls.{Called, call-ok}
+use Rattle.subset.proofs.Rule.{blank-over, blank-word, blank-held}
+use Rattle.subset.proofs.Held.{Held}
+use Rattle.subset.proofs.Taken.{put-same, put-other, more}
+use Rattle.epoch.specs.declared.SubsetHandlingStrategy.{SubsetHandlingStrategy}
+use Rattle.epoch.specs.declared.SubsetHandlingStrategy.the-variants.{Incremental, AllAtEnd}
+use Rattle.epoch.specs.declared.MessageContent.{MessageContent}
+use Rattle.epoch.specs.declared.MessageContent.the-variants.{Broadcast, Agreement, DecryptionShare}
+use Rattle.epoch.specs.Words.{isComplete, isAccepted, hasBit, missing, ongoing, complete, decryptionAt, plaintextAt, loadInstance, loadDecryption}
+use Rattle.epoch.specs.Epoch.{newEpoch, callEntry, handleDecryptionShare, processSubset, handedUp, callSubset, propose, handleMessageContent}
+use Rattle.epoch.specs.Batch.{isDecrypted, decryptedFrom, isReady}
+use Rattle.epoch.proofs.Told.{nothing, shareOf, Told, Ready, EpochLaws}
+use Rattle.epoch.proofs.Orderly.{Orderly}
+use Rattle.epoch.proofs.Passes.{subsetKinds, decryptionKinds, subset-eight, subset-twelve, subset-thirteen, decryption-value, decryption-decision, decryption-thirteen, outside-status, outside-accepted, outside-record, Frame, propose-subset-runs, handle-subset-runs, quiet-proposed, quiet-handled}
+use Rattle.epoch.proofs.Texts.{after-ask, reads-past, after-with}
+use Rattle.epoch.proofs.Entries.{accepted-kept}
+use Rattle.epoch.proofs.Handled.{TextOk, text-words, text-value, opening-ran, Dealt, share-entry, TextsOk}
+use Rattle.epoch.proofs.Contributions.{same-stays, held-same}
+use Rattle.epoch.proofs.Holds.{handledBy, Going, Done, Holds, settled-decided, process-ok}
+
+-- A CALL THAT READS NOTHING
+told-still : (net : NetworkInfo) (strategy : SubsetHandlingStrategy) (encrypted : Bool) (w : List ℕ) (v d t : ℕ → Option ℕ) (who : Option ℕ) (ws : List Rec)
+    → Holds net strategy encrypted w v d t → Good (net .«num_nodes») ws → Told Holds net strategy encrypted v d t who ws w ws
+told-still net strategy encrypted w v d t who ws h g = record {
+  v′ = v;
+  d′ = d;
+  t′ = t;
+  who′ = who;
+  holds = h;
+  size = h .size;
+  good = g;
+  value = λ q. refl;
+  decision = λ q. refl;
+  text = λ q. refl;
+  thirteens = refl;
+}
+
+-- answers before a call that tell nothing
+told-before : (is : ℕ → Bool) → Others is ofValue → Others is ofDecision → Others is (λ k. eqb k 8) → Others is (λ k. eqb k 12) → Others is (λ k. eqb k 13)
+    → (net : NetworkInfo) (strategy : SubsetHandlingStrategy) (encrypted : Bool) (v d t : ℕ → Option ℕ) (who : Option ℕ) (ws r : List Rec) (w : List ℕ) (z : List Rec)
+    → Past is ws r → Told Holds net strategy encrypted v d t who r w z → Told Holds net strategy encrypted v d t who ws w z
+told-before is f g e tw th net strategy encrypted v d t who ws r w z p k = record {
+  v′ = k .v′;
+  d′ = k .d′;
+  t′ = k .t′;
+  who′ = k .who′;
+  holds = k .holds;
+  size = k .size;
+  good = k .good;
+  value = λ q. ap (orElse (v q)) (past-first is ofValue f p q) ∙ k .value q;
+  decision = λ q. ap (orElse (d q)) (past-first is ofDecision g p q) ∙ k .decision q;
+  text = λ q. ap (orElse (t q)) (past-decrypted is e tw p q who) ∙ k .text q;
+  thirteens = past-thirteens is th p ∙ k .thirteens;
+}
+
+-- A SHARE
+module _ (net : NetworkInfo) (strategy : SubsetHandlingStrategy) (encrypted : Bool) (p : ℕ) (w : List ℕ) (v d t : ℕ → Option ℕ) (ws : List Rec) (w′ : List ℕ) (r : List Rec)
+    (h : Holds net strategy encrypted w v d t) (g : Good (net .«num_nodes») ws) (a : Dealt encrypted (net .«num_nodes») p w (isAccepted w p) (v p) (t p) ws w′ r) where
+  abbrev n : ℕ
+  n = net .«num_nodes»
+
+  bit : (q : ℕ) → isAccepted w′ q ≡ isAccepted w q
+  bit q = accepted-kept w w′ (a .stays .low acceptedAt (omega arith)) q
+
+  texts-dealt : (q : ℕ) → q < n → (x : Bool) → eqb q p ≡ x → TextOk encrypted (loadDecryption n w′ q) (isAccepted w′ q) (v q) (more t p (a .o) q)
+  texts-dealt q l true e = rw (eqb-true q p e, bit p, put-same t p (orElse (t p) (a .o))) (a .text)
+  texts-dealt q l false e =
+      let ne = eqb-false q p e in
+      rw (bit q, put-other t p (orElse (t p) (a .o)) q ne)
+      (text-words encrypted n w w′ q (isAccepted w q) (v q) (t q) (λ j x y. a .stays .other q j (omega arith) ne) (h .texts q l))
+
+  stage-dealt : Going net strategy w v d ⊎ Done net w v d → Going net strategy w′ v d ⊎ Done net w′ v d
+  stage-dealt (inl s) = inl (record {
+    status = a .stays .low statusAt (omega arith) ∙ s .status;
+    undecided = a .stays .low decidedAt (omega arith) ∙ s .undecided;
+    over = s .over;
+    held = held-same (handledBy strategy v d) n w w′ v d (same-stays (a .stays)) (s .held);
+    accepted = λ q l. bit q ∙ s .accepted q l;
+  })
+  stage-dealt (inr s) = inr (record {
+    status = a .stays .low statusAt (omega arith) ∙ s .status;
+    settled = s .settled;
+    enough = s .enough;
+    accepted = λ q l. bit q ∙ s .accepted q l;
+  })
+
+  told-dealt : Told Holds net strategy encrypted v d t (some p) ws w′ r
+  told-dealt =
+      let o = opening-ran t p ws (a .o) r (a .ran) in
+      record {
+        v′ = v;
+        d′ = d;
+        t′ = more t p (a .o);
+        who′ = some p;
+        holds = record { size = a .stays .size ∙ h .size; texts = λ q l. texts-dealt q l (eqb q p) refl; stage = stage-dealt (h .stage) };
+        size = a .stays .size ∙ h .size;
+        good = past-good decryptionKinds n (a .ran .past) g;
+        value = λ q. ap (orElse (v q)) (past-first decryptionKinds ofValue decryption-value (a .ran .past) q);
+        decision = λ q. ap (orElse (d q)) (past-first decryptionKinds ofDecision decryption-decision (a .ran .past) q);
+        text = o .text;
+        thirteens = past-thirteens decryptionKinds decryption-thirteen (a .ran .past);
+      }
+
+-- A CALL OF THE SUBSET, and what it hands up
+module _ (net : NetworkInfo) (strategy : SubsetHandlingStrategy) (encrypted : Bool) (w : List ℕ) (v d t : ℕ → Option ℕ) (who : Option ℕ)
+    (h : Holds net strategy encrypted w v d t) (s : Going net strategy w v d) where
+  abbrev N : ℕ
+  N = net .«num_nodes»
+
+  abbrev old : ℕ → Bool
+  old = handledBy strategy v d
+
+  called-then : (ws : List Rec) (done : Bool) (w₁ : List ℕ) (u : Tape) → Good N ws → Called old net v d ws done w₁ (u .rest) → Past subsetKinds ws (u .rest) → Frame N w w₁
+      → After (processSubset net strategy encrypted done w₁ u) (λ _ w′ z. Told Holds net strategy encrypted v d t who ws w′ (z .rest))
+  called-then ws done w₁ u g c past f =
+      after-map (processSubset net strategy encrypted done w₁ u) _ _
+      (process-ok net strategy encrypted v d (c .v′) (c .d′) t w₁ who u done (c .held) texts₁ (λ q l. bit q ∙ s .accepted q l) (f statusAt (outside-status N) ∙ s .status) (c .decided) (c .says (s .over)))
+      (λ _ w′ z p. record {
+        v′ = c .v′;
+        d′ = c .d′;
+        t′ = p .t′;
+        who′ = p .who′;
+        holds = p .holds;
+        size = p .holds .size;
+        good = past-good decryptionKinds N (p .opening .past) (past-good subsetKinds N past g);
+        value = λ q. c .linked .value q ∙ ap (orElse (c .v′ q)) (past-first decryptionKinds ofValue decryption-value (p .opening .past) q);
+        decision = λ q. c .linked .decision q ∙ ap (orElse (c .d′ q)) (past-first decryptionKinds ofDecision decryption-decision (p .opening .past) q);
+        text = λ q. ap (orElse (t q)) (past-decrypted subsetKinds subset-eight subset-twelve past q who) ∙ p .opening .text q;
+        thirteens = past-thirteens subsetKinds subset-thirteen past ∙ past-thirteens decryptionKinds decryption-thirteen (p .opening .past);
+      })
+    where
+      bit : (q : ℕ) → isAccepted w₁ q ≡ isAccepted w q
+      bit q = accepted-kept w w₁ (f acceptedAt (outside-accepted N)) q
+
+      texts₁ : TextsOk encrypted N w₁ (c .v′) t
+      texts₁ q l =
+          rw (bit q)
+          (text-value encrypted (loadDecryption N w₁ q) (isAccepted w q) (v q) (c .v′ q) (t q) (c .linked .grownV q)
+          (text-words encrypted N w w₁ q (isAccepted w q) (v q) (t q) (λ j a b. f (recordAt N q j) (outside-record N q j a (omega arith))) (h .texts q l)))
+
+  -- a call that goes on hands up what it has
+  handed-ok : (k : ℕ) (r : Run (List ℕ) Bool) (Q : Bool → List ℕ → Tape → Type 0) → After r Q → After (handedUp net strategy encrypted k (r .verdict) r) Q
+  unfolding handedUp
+  handed-ok k r Q a = go (r .verdict) refl
+    where
+      go : (x : Verdict Bool) → r .verdict ≡ x → After (handedUp net strategy encrypted k x r) Q
+      go (going done) e = a
+      go refused e = rw e tt
+      go (failed m) e = rw e tt
+
+  going-ok : (call : List ℕ → Tape → Run (List ℕ) Bool) (u : Tape) → Good N (u .rest)
+      → After (call w u) (λ done w₁ z. Called old net v d (u .rest) done w₁ (z .rest)) → Orderly (Frame N w) subsetKinds u (call w u)
+      → After (callSubset net strategy encrypted call w u) (λ _ w′ z. Told Holds net strategy encrypted v d t who (u .rest) w′ (z .rest))
+  unfolding callSubset
+  going-ok call u g c o =
+      rw (s .status)
+      (after-onward (handedUp net strategy encrypted (getD w countAt 0) (call w u .verdict) (call w u)) _ _
+      (handed-ok (getD w countAt 0) (call w u) _
+      (after-map (call w u) _ _ (after-with (call w u) _ (λ w₁ z. Past subsetKinds (u .rest) (z .rest) × Frame N w w₁) (o .past, o .state) c) (λ done w₁ z a.
+      called-then (u .rest) done w₁ z g (a .0) (a .1 .0) (a .1 .1)))))
+
+-- any call of the subset
+record Subset (net : NetworkInfo) (call : List ℕ → Tape → Run (List ℕ) Bool) : Type 0 where
+  called : (old : ℕ → Bool) (w : List ℕ) (v d : ℕ → Option ℕ) → Held old (net .«num_nodes») w v d → (u : Tape) → Good (net .«num_nodes») (u .rest)
+      → getD w decidedAt 0 ≡ cond (isOver net v d) 1 0 → After (call w u) (λ done w₁ z. Called old net v d (u .rest) done w₁ (z .rest))
+  orderly : (w : List ℕ) (u : Tape) → Orderly (Frame (net .«num_nodes») w) subsetKinds u (call w u)
+
+proposes : (net : NetworkInfo) → Subset net (proposeSubset net 22)
+unfolding callRule
+proposes net = record { called = λ old w v d h u g e. call-ok old net w v d h u g e proposing; orderly = λ w u. propose-subset-runs net 22 w w u (λ i o. refl) }
+
+broadcasts : (net : NetworkInfo) (p : ℕ) → Subset net (handleSubset net 23 1 p)
+unfolding callRule
+broadcasts net p = record { called = λ old w v d h u g e. call-ok old net w v d h u g e (broadcasting p); orderly = λ w u. handle-subset-runs net 23 w 1 p w u (λ i o. refl) }
+
+agrees : (net : NetworkInfo) (p : ℕ) → Subset net (handleSubset net 23 2 p)
+unfolding callRule
+agrees net p = record { called = λ old w v d h u g e. call-ok old net w v d h u g e (agreeing p); orderly = λ w u. handle-subset-runs net 23 w 2 p w u (λ i o. refl) }
+
+module _ (net : NetworkInfo) (strategy : SubsetHandlingStrategy) (encrypted : Bool) (w : List ℕ) (v d t : ℕ → Option ℕ) (h : Holds net strategy encrypted w v d t) where
+  subset-ok : (call : List ℕ → Tape → Run (List ℕ) Bool) → Subset net call → (u : Tape) (who : Option ℕ) → Good (net .«num_nodes») (u .rest)
+      → After (callSubset net strategy encrypted call w u) (λ _ w′ z. Told Holds net strategy encrypted v d t who (u .rest) w′ (z .rest))
+  unfolding callSubset
+  subset-ok call c u who g = go (h .stage)
+    where
+      go : Going net strategy w v d ⊎ Done net w v d → After (callSubset net strategy encrypted call w u) (λ _ w′ z. Told Holds net strategy encrypted v d t who (u .rest) w′ (z .rest))
+      go (inl s) =
+          going-ok net strategy encrypted w v d t who h s call u g
+          (c .called (handledBy strategy v d) w v d (s .held) u g (s .undecided ∙ ap (λ x. cond x 1 0) (sym (s .over)))) (c .orderly w u)
+      go (inr s) = rw (s .status) (told-still net strategy encrypted w v d t who (u .rest) h g)
+
+  share-ok : (sender p share : ℕ) → p < net .«num_nodes» → (u : Tape) → Good (net .«num_nodes») (u .rest)
+      → After (handleDecryptionShare net sender p share w u) (λ _ w′ z. Told Holds net strategy encrypted v d t (some p) (u .rest) w′ (z .rest))
+  unfolding handleDecryptionShare
+  share-ok sender p share l u g =
+      after-cond (isComplete w) _ _ _ (after-cond (isAccepted w p) _ _ _ deals (told-still net strategy encrypted w v d t (some p) (u .rest) h g)) deals
+    where
+      deals : After (callEntry net (loadDecryption (net .«num_nodes») w p) p w u (handleShare net p sender share)) (λ _ w′ z. Told Holds net strategy encrypted v d t (some p) (u .rest) w′ (z .rest))
+      deals =
+          after-map (callEntry net (loadDecryption (net .«num_nodes») w p) p w u (handleShare net p sender share)) _ _
+          (share-entry net p w u l (h .size) encrypted sender share (isAccepted w p) (v p) (t p) (h .texts p l))
+          (λ _ w′ z a. told-dealt net strategy encrypted p w v d t (u .rest) w′ (z .rest) h g a)
+
+  -- THE EPOCH'S TWO CALLS
+  pub handled-ok : (sender p : ℕ) (content : MessageContent) → p < net .«num_nodes» → (u : Tape) → Good (net .«num_nodes») (u .rest)
+      → After (handleMessageContent net strategy encrypted sender p content w u) (λ _ w′ z. Told Holds net strategy encrypted v d t (shareOf p content) (u .rest) w′ (z .rest))
+  unfolding handleMessageContent shareOf
+  handled-ok sender p Broadcast l u g = subset-ok (handleSubset net 23 1 p) (broadcasts net p) u none g
+  handled-ok sender p Agreement l u g = subset-ok (handleSubset net 23 2 p) (agrees net p) u none g
+  handled-ok sender p (DecryptionShare share) l u g = share-ok sender p share l u g
+
+  pub proposed-ok : (u : Tape) → Good (net .«num_nodes») (u .rest)
+      → After (propose net strategy encrypted w u) (λ _ w′ z. Told Holds net strategy encrypted v d t none (u .rest) w′ (z .rest))
+  unfolding propose
+  proposed-ok u g =
+      after-ask u 2 w _ _ (λ a b z r.
+      let two = reads-past serialised u 2 b z refl r in
+      after-cond (eqb a 0) _ _ _ tt
+      (after-map (callSubset net strategy encrypted (proposeSubset net 22) w z) _ _
+      (subset-ok (proposeSubset net 22) (proposes net) z none (past-good serialised (net .«num_nodes») two g)) (λ _ w′ y k.
+      told-before serialised (λ k e. rw (eqb-true k 2 e)) (λ k e. rw (eqb-true k 2 e)) (λ k e. rw (eqb-true k 2 e)) (λ k e. rw (eqb-true k 2 e)) (λ k e. rw (eqb-true k 2 e))
+      net strategy encrypted v d t none (u .rest) (z .rest) w′ (y .rest) two k)))
+    where
+      serialised : ℕ → Bool
+      serialised k = eqb k 2
+
+-- A NEW EPOCH
+none-handled : (strategy : SubsetHandlingStrategy) (q : ℕ) → handledBy strategy nothing nothing q ≡ false
+unfolding isThere
+none-handled Incremental q = refl
+none-handled AllAtEnd q = refl
+
+none-accepted : (w : List ℕ) → getD w acceptedAt 0 ≡ 0 → (q : ℕ) → isAccepted w q ≡ false
+unfolding isAccepted hasBit
+none-accepted w e q = rw (e, zero-div (2 ^ q))
+
+none-text : (encrypted : Bool) → TextOk encrypted missing false none none
+unfolding TextOk
+none-text true = refl
+none-text false = (refl, refl)
+
+pub fresh-holds : (net : NetworkInfo) (strategy : SubsetHandlingStrategy) (encrypted : Bool) → Network net → Holds net strategy encrypted (newEpoch (net .«num_nodes»)) nothing nothing nothing
+unfolding newEpoch loadDecryption
+fresh-holds net strategy encrypted k = record {
+  size = held .size;
+  texts = λ q l.
+      rw (none-accepted (newEpoch n) (blank-word n acceptedAt (λ e. omega arith)) q, blank-word n (decryptionAt n q) (λ e. omega arith)) (none-text encrypted);
+  stage = inl (record {
+    status = getD-set-same (replicate (epochLength n) 0) statusAt 1 0 (omega (arith, length-replicate {A = ℕ} (epochLength n) 0));
+    undecided = blank-word n decidedAt (λ e. omega arith);
+    over = blank-over net k;
+    held = held;
+    accepted = λ q l. none-accepted (newEpoch n) (blank-word n acceptedAt (λ e. omega arith)) q ∙ sym (none-handled strategy q);
+  });
+}
+  where
+    n : ℕ
+    n = net .«num_nodes»
+
+    held : Held (handledBy strategy nothing nothing) (net .«num_nodes») (newEpoch (net .«num_nodes»)) nothing nothing
+    held = blank-held (handledBy strategy nothing nothing) (none-handled strategy) (net .«num_nodes»)
+
+-- AN EPOCH THAT IS READY
+decrypted-at : (n m p : ℕ) (w : List ℕ) → decryptedFrom n m p w ≡ true → (q : ℕ) → p ≤ q → q < p + m → isAccepted w q ≡ true → isDecrypted (loadDecryption n w q) ≡ true
+unfolding decryptedFrom
+decrypted-at n zero p w e q l h a = absurd (omega arith)
+decrypted-at n (suc m) p w e q l h a = go (eqb q p) refl (decrypted-at n m (p + 1) w (two .1) q)
+  where
+    two : (cond (isAccepted w p) (isDecrypted (loadDecryption n w p)) true ≡ true) × (decryptedFrom n m (p + 1) w ≡ true)
+    two = and-true (cond (isAccepted w p) (isDecrypted (loadDecryption n w p)) true) (decryptedFrom n m (p + 1) w) e
+
+    go : (x : Bool) → eqb q p ≡ x → (p + 1 ≤ q → q < p + 1 + m → isAccepted w q ≡ true → isDecrypted (loadDecryption n w q) ≡ true) → isDecrypted (loadDecryption n w q) ≡ true
+    go true y f =
+        let z : q ≡ p = eqb-true q p y in
+        let b : isAccepted w p ≡ true = rw z at a in
+        rw z (rw b at (two .0))
+    go false y f = let ne = eqb-false q p y in f (omega arith) (omega arith) a
+
+text-word : (encrypted : Bool) (n : ℕ) (w : List ℕ) (q : ℕ) (a : Bool) (v t : Option ℕ) → isDecrypted (loadDecryption n w q) ≡ true → TextOk encrypted (loadDecryption n w q) a v t
+    → cond encrypted t v ≡ some (getD w (plaintextAt n q) 0)
+unfolding loadDecryption isDecrypted TextOk
+text-word encrypted n w q a v t e h = go encrypted (eqb (getD w (decryptionAt n q) 0) 0) (eqb (getD w (decryptionAt n q) 0) 1) e h
+  where
+    go : (c x y : Bool) → isDecrypted (cond x missing (cond y (ongoing (loadInstance n w q)) (complete (getD w (plaintextAt n q) 0)))) ≡ true
+        → TextOk c (cond x missing (cond y (ongoing (loadInstance n w q)) (complete (getD w (plaintextAt n q) 0)))) a v t
+        → cond c t v ≡ some (getD w (plaintextAt n q) 0)
+    go c true y e h = absurd (false≢true e)
+    go c false true e h = absurd (false≢true e)
+    go true false false e h = h .0
+    go false false false e h = h .1
+
+pub ready-holds : (net : NetworkInfo) (strategy : SubsetHandlingStrategy) (encrypted : Bool) (w : List ℕ) (v d t : ℕ → Option ℕ)
+    → Holds net strategy encrypted w v d t → isReady (net .«num_nodes») w ≡ true → Ready Holds net encrypted w v d t
+unfolding isReady
+ready-holds net strategy encrypted w v d t h e = go (h .stage)
+  where
+    n : ℕ
+    n = net .«num_nodes»
+
+    two : (isComplete w ≡ true) × (decryptedFrom (net .«num_nodes») (net .«num_nodes») 0 w ≡ true)
+    two = and-true (isComplete w) (decryptedFrom (net .«num_nodes») (net .«num_nodes») 0 w) e
+
+    go : Going net strategy w v d ⊎ Done net w v d → Ready Holds net encrypted w v d t
+    go (inl s) = absurd (omega (arith, s .status, eqb-true (getD w statusAt 0) 2 (two .0)))
+    go (inr s) = record {
+      decided = settled-decided v d n (s .settled);
+      accepted = s .accepted;
+      plaintext = λ q l o.
+          text-word encrypted n w q (isAccepted w q) (v q) (t q) (decrypted-at n n 0 w (two .1) q (omega arith) (omega arith) (s .accepted q l ∙ o)) (h .texts q l);
+      enough = s .enough;
+    }
+
+-- THE LAWS
+pub epoch-laws : EpochLaws Holds
+epoch-laws = record {
+  fresh = fresh-holds;
+  proposed = λ net strategy encrypted w v d t p k h g. proposed-ok net strategy encrypted w v d t h p g;
+  handled = λ net strategy encrypted w v d t p k sender proposer content ls lp h g. handled-ok net strategy encrypted w v d t h sender proposer content lp p g;
+  quietProposed = quiet-proposed;
+  quietHandled = quiet-handled;
+  ready = λ net strategy encrypted w v d t k h e. ready-holds net strategy encrypted w v d t h e;
+}

@@ -1,0 +1,152 @@
+-- Runs that have read answers of certain kinds only, whose log has no outputs and no faults 5, and whose state has a property. Assumes nothing.
+use Prim.Native.Nat.{ℕ, _+_}
+use mathlib.Core.Path.{_≡_, refl, sym, ap}
+use mathlib.Core.List.{List, [], _∷_, _++_, append-assoc}
+use mathlib.Core.Bool.{Bool, true, false, cond}
+use native.Mathlib.Omega.{arith}
+use lib.Dec.{eqb}
+use borrow.Author.Tests.{ne-eqb}
+use Rattle.steps.specs.declared.reader.Answer.{Answer}
+use Rattle.steps.specs.declared.reader.Answer.the-variants.{Got, Refused}
+use Rattle.steps.specs.declared.reader.Output.{Output}
+use Rattle.steps.specs.declared.reader.Output.the-variants.{Missing}
+use Rattle.steps.specs.Answers.{Rec, Tape, Asked, ask, askAbout}
+use Rattle.steps.specs.Steps.{Entry, message, fault, output, Item, item, faults, outputs}
+use Rattle.steps.specs.Runs.{Verdict, going, refused, failed, Run, ends, before, onwardAs, onward, heardAs, heard, inside}
+use Rattle.steps.specs.Parts.{isPart, partEntries, lastOutput, partsFrom, readParts}
+use Rattle.steps.proofs.Parts.{parts-on, parts-off}
+use Rattle.steps.proofs.Past.{OfKinds, Past, past-same, past-then, past-ask, past-about, past-parts}
+use Rattle.epoch.proofs.Told.{fivesAmong, Quiet}
+
+-- LOGS
+outputs-append : (a b : List Entry) → outputs (a ++ b) ≡ outputs a ++ outputs b
+unfolding outputs
+outputs-append [] b = refl
+outputs-append (message k x y ∷ a) b = outputs-append a b
+outputs-append (fault k x y ∷ a) b = outputs-append a b
+outputs-append (output k x y ∷ a) b = ap (λ l. item k x y ∷ l) (outputs-append a b)
+
+faults-append : (a b : List Entry) → faults (a ++ b) ≡ faults a ++ faults b
+unfolding faults
+faults-append [] b = refl
+faults-append (message k x y ∷ a) b = faults-append a b
+faults-append (fault k x y ∷ a) b = ap (λ l. item k x y ∷ l) (faults-append a b)
+faults-append (output k x y ∷ a) b = faults-append a b
+
+fives-append : (a b : List Item) → fivesAmong (a ++ b) ≡ fivesAmong a ++ fivesAmong b
+unfolding fivesAmong
+fives-append [] b = refl
+fives-append (x ∷ a) b = rw (fives-append a b) (sym (append-assoc (cond (eqb (x .kind) 5) (x .a ∷ []) []) (fivesAmong a) (fivesAmong b)))
+
+pub quiet-none : Quiet []
+unfolding outputs faults fivesAmong
+quiet-none = record { noOutputs = refl; noFives = refl }
+
+pub quiet-append : (a b : List Entry) → Quiet a → Quiet b → Quiet (a ++ b)
+quiet-append a b f g = record {
+  noOutputs = rw (outputs-append a b, f .noOutputs, g .noOutputs);
+  noFives = rw (faults-append a b, fives-append (faults a) (faults b), f .noFives, g .noFives);
+}
+
+pub quiet-message : (k x y : ℕ) → Quiet (message k x y ∷ [])
+unfolding outputs faults fivesAmong
+quiet-message k x y = record { noOutputs = refl; noFives = refl }
+
+pub quiet-fault : (k x y : ℕ) → eqb k 5 ≡ false → Quiet (fault k x y ∷ [])
+unfolding outputs faults fivesAmong
+quiet-fault k x y e = record { noOutputs = refl; noFives = rw e }
+
+quiet-part : (content proposer kind a b : ℕ) → Quiet (partEntries content proposer kind a b)
+unfolding partEntries
+quiet-part content proposer kind a b = go (eqb kind 16) (eqb kind 17)
+  where
+    go : (x y : Bool) → Quiet (cond x (message content proposer b ∷ []) (cond y (fault (content + 7) a b ∷ []) []))
+    go true y = quiet-message content proposer b
+    go false true = quiet-fault (content + 7) a b (ne-eqb (content + 7) 5 (λ e. omega arith))
+    go false false = quiet-none
+
+quiet-parts : (content proposer : ℕ) (o : Output) (i : ℕ) (l : List Rec) → Quiet (partsFrom content proposer o i l .log)
+unfolding partsFrom
+quiet-parts content proposer o i [] = quiet-none
+quiet-parts content proposer o i (r ∷ rs) = go (isPart (r .kind)) refl (quiet-parts content proposer (lastOutput o (r .kind) (r .b)) (r .next) rs)
+  where
+    go : (x : Bool) → isPart (r .kind) ≡ x → Quiet (partsFrom content proposer (lastOutput o (r .kind) (r .b)) (r .next) rs .log) → Quiet (partsFrom content proposer o i (r ∷ rs) .log)
+    go true e q = rw (parts-on content proposer o i r rs e) (quiet-append _ _ (quiet-part content proposer (r .kind) (r .a) (r .b)) q)
+    go false e q = rw (parts-off content proposer o i r rs e) quiet-none
+
+-- RUNS from the tape p
+pub record Orderly {S A : Type 0} (P : S → Type 0) (is : ℕ → Bool) (p : Tape) (r : Run S A) : Type 0 where
+  pub state : P (r .state)
+  pub past : Past is (p .rest) (r .tape .rest)
+  pub quiet : Quiet (r .log)
+
+-- a state of which nothing is said, and answers of every kind
+abbrev pub Any : {S : Type 0} → S → Type 0
+Any s = Unit {0}
+
+abbrev pub anyKind : ℕ → Bool
+anyKind k = true
+
+kinds-any : (is : ℕ → Bool) (l : List Rec) → OfKinds is l → OfKinds anyKind l
+unfolding OfKinds
+kinds-any is [] k = tt
+kinds-any is (r ∷ rs) k = (refl, kinds-any is rs (k .1))
+
+pub orderly-any : {S A : Type 0} {P : S → Type 0} {is : ℕ → Bool} {p : Tape} {r : Run S A} → Orderly P is p r → Orderly Any anyKind p r
+orderly-any {is = is} k = record { state = tt; past = record { read = k .past .read; rests = k .past .rests; kinds = kinds-any is (k .past .read) (k .past .kinds) }; quiet = k .quiet }
+
+module _ {S A : Type 0} {P : S → Type 0} {is : ℕ → Bool} where
+  pub orderly-ends : {v : Verdict A} {s : S} {p : Tape} → P s → Orderly P is p (ends v s p)
+  orderly-ends {p = p} h = record { state = h; past = past-same is (p .rest); quiet = quiet-none }
+
+  pub orderly-before : {l : List Entry} {p : Tape} {r : Run S A} → Quiet l → Orderly P is p r → Orderly P is p (before l r)
+  orderly-before q k = record { state = k .state; past = k .past; quiet = quiet-append _ _ q (k .quiet) }
+
+  pub orderly-cond : {p : Tape} (x : Bool) (r s : Run S A) → Orderly P is p r → Orderly P is p s → Orderly P is p (cond x r s)
+  orderly-cond true r s f g = f
+  orderly-cond false r s f g = g
+
+  -- answers read before a run
+  orderly-after : {p q : Tape} {r : Run S A} → Past is (p .rest) (q .rest) → Orderly P is q r → Orderly P is p r
+  orderly-after l k = record { state = k .state; past = past-then is l (k .past); quiet = k .quiet }
+
+  orderly-heard : (p : Tape) (q : Asked) (s : S) (k : ℕ → ℕ → Tape → Run S A) → Past is (p .rest) (q .tape .rest) → P s
+      → ((a b : ℕ) (u : Tape) → Orderly P is u (k a b u)) → Orderly P is p (heard q s k)
+  unfolding heard heardAs
+  orderly-heard p q s k l h f = go (q .answer)
+    where
+      go : (x : Answer) → Orderly P is p (heardAs x s (q .tape) k)
+      go (Got a b) = orderly-after l (f a b (q .tape))
+      go Refused = record { state = h; past = l; quiet = quiet-none }
+
+  pub orderly-ask : (p : Tape) (kind : ℕ) (s : S) (k : ℕ → ℕ → Tape → Run S A) → is kind ≡ true → P s
+      → ((a b : ℕ) (u : Tape) → Orderly P is u (k a b u)) → Orderly P is p (heard (ask p kind) s k)
+  orderly-ask p kind s k e h f = orderly-heard p (ask p kind) s k (past-ask is p kind e) h f
+
+  pub orderly-about : (p : Tape) (kind who : ℕ) (s : S) (k : ℕ → ℕ → Tape → Run S A) → is kind ≡ true → P s
+      → ((a b : ℕ) (u : Tape) → Orderly P is u (k a b u)) → Orderly P is p (heard (askAbout p kind who) s k)
+  orderly-about p kind who s k e h f = orderly-heard p (askAbout p kind who) s k (past-about is p kind who e) h f
+
+module _ {S A B : Type 0} {P : S → Type 0} {is : ℕ → Bool} where
+  pub orderly-onward : {p : Tape} (r : Run S A) (k : A → S → Tape → Run S B) → Orderly P is p r → ((a : A) (s : S) (q : Tape) → P s → Orderly P is q (k a s q)) → Orderly P is p (onward r k)
+  unfolding onward onwardAs
+  orderly-onward {p} r k h f = go (r .verdict)
+    where
+      go : (v : Verdict A) → Orderly P is p (onwardAs v r k)
+      go (going a) =
+          let n = f a (r .state) (r .tape) (h .state) in
+          record { state = n .state; past = past-then is (h .past) (n .past); quiet = quiet-append _ _ (h .quiet) (n .quiet) }
+      go refused = record { state = h .state; past = h .past; quiet = h .quiet }
+      go (failed n) = record { state = h .state; past = h .past; quiet = h .quiet }
+
+pub orderly-inside : {S T A : Type 0} {P : S → Type 0} {R : T → Type 0} {is : ℕ → Bool} {p : Tape} (put : T → S) (r : Run T A)
+    → ((t : T) → R t → P (put t)) → Orderly R is p r → Orderly P is p (inside put r)
+orderly-inside put r f k = record { state = f _ (k .state); past = k .past; quiet = k .quiet }
+
+pub orderly-parts : {S : Type 0} {P : S → Type 0} (is : ℕ → Bool) → ((k : ℕ) → isPart k ≡ true → is k ≡ true) → (content proposer : ℕ) (s : S) (p : Tape) → P s
+    → Orderly P is p (readParts content proposer s p)
+orderly-parts is f content proposer s p h = record {
+  state = h;
+  past = past-parts is f content proposer Missing (p .place) (p .rest);
+  quiet = quiet-parts content proposer Missing (p .place) (p .rest);
+}
