@@ -93,7 +93,7 @@ getD-zeros zero i = refl
 getD-zeros (suc n) zero = refl
 getD-zeros (suc n) (suc i) = getD-zeros n i
 
-created-zeros : (c : Numbers) (i : ℕ) → 11 ≤ i → getD (created c) i 0 ≡ 0
+pub created-zeros : (c : Numbers) (i : ℕ) → 11 ≤ i → getD (created c) i 0 ≡ 0
 unfolding created headerOf
 created-zeros c i h =
     ap (λ (j : ℕ). getD (created c) j 0) e

@@ -7,4 +7,15 @@ pub mod Created
 pub mod Skips
 pub mod RangesState
 pub mod Ranges
+pub mod Window
+pub mod OneBatch
+pub mod Shown
+pub mod Handout
+pub mod Alike
+pub mod Invariant
+pub mod OneCall
+pub mod Passes
+pub mod OneRun
+pub mod TwoRuns
+pub mod Agreement
 pub mod Pair

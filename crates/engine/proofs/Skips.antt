@@ -26,7 +26,7 @@ quotient-le : (m d e : ℕ) → d % m ≡ e % m → e < d + m → e / m ≤ d / 
 quotient-le m d e h l = le-of-suc-le-suc (lt-of-not-le (λ (q : suc (d / m) ≤ e / m).
     omega (arith, div-add-mod d m, div-add-mod e m, mul-le-mul-left m q, mul-suc m (d / m))))
 
-same-place : (m d e : ℕ) → d % m ≡ e % m → e < d + m → d < e + m → d ≡ e
+pub same-place : (m d e : ℕ) → d % m ≡ e % m → e < d + m → d < e + m → d ≡ e
 same-place m d e h k l =
     let q : d / m ≡ e / m = le-antisymm (quotient-le m e d (sym h) l) (quotient-le m d e h k) in
     sym (div-add-mod d m) ∙ rw (q, h) (div-add-mod e m)

@@ -3,7 +3,7 @@ use Prim.Native.Nat.{ℕ, zero, suc, _+_, _^_, _≤_, _<_}
 use mathlib.Core.Path.{_≡_, refl, sym, ap, _∙_}
 use mathlib.Core.Logic.{_⊎_, inl, inr}
 use mathlib.Core.List.{List}
-use mathlib.Core.Bool.{Bool, true, false, cond, false≢true}
+use mathlib.Core.Bool.{Bool, true, false, cond, _&&_, _||_, not, false≢true}
 use mathlib.Core.Option.{Option, none, some}
 use native.Mathlib.Omega.{arith}
 use native.Mathlib.Nat.{zero-div}
@@ -15,14 +15,14 @@ use Rattle.steps.specs.declared.network_info.NetworkInfo.{NetworkInfo}
 use Rattle.steps.specs.Network.{Network}
 use Rattle.steps.specs.Answers.{Rec, Tape}
 use Rattle.steps.specs.Runs.{Verdict, going, refused, failed, Run}
-use Rattle.steps.specs.Taken.{orElse, isThere, ofValue, ofDecision}
+use Rattle.steps.specs.Taken.{orElse, isThere, isTrue, ofValue, ofDecision}
 use Rattle.steps.proofs.Laws.{and-true}
 use Rattle.steps.proofs.Chains.{Good}
 use Rattle.steps.proofs.Past.{Past, Others, past-first, past-thirteens, past-decrypted, past-good}
 use Rattle.decryption.specs.Decrypt.{handleMessage as handleShare}
 use Rattle.subset.specs.Words.{epochLength, statusAt, decidedAt, acceptedAt, countAt, recordAt}
 use Rattle.subset.specs.Subset.{propose as proposeSubset, handleMessage as handleSubset}
-use Rattle.subset.specs.Rule.{isOver, proposing, broadcasting, agreeing, callSubset as callRule}
+use Rattle.subset.specs.Rule.{isOver, settledFrom, proposing, broadcasting, agreeing, callSubset as callRule}
 use Rattle.subset.proofs.After.{After, after-map, after-cond, after-onward}
 use Rattle.subset.proofs.Calls.{Called, call-ok}
 use Rattle.subset.proofs.Rule.{blank-over, blank-word, blank-held}
@@ -315,6 +315,24 @@ text-word encrypted n w q a v t e h = go encrypted (eqb (getD w (decryptionAt n 
     go true false false e h = h .0
     go false false false e h = h .1
 
+-- where every agreement has decided and every value decided 1 is here
+settled-known : (v d : ℕ → Option ℕ) (m p : ℕ) → settledFrom v d m p ≡ true → (q : ℕ) → p ≤ q → q < p + m → isTrue (d q) ≡ true → isThere (v q) ≡ true
+unfolding settledFrom
+settled-known v d zero p s q l h t = absurd (omega arith)
+settled-known v d (suc m) p s q l h t = go (eqb q p) refl (settled-known v d m (p + 1) (parts .1) q)
+  where
+    parts : (isThere (d p) && (not (isTrue (d p)) || isThere (v p)) ≡ true) × (settledFrom v d m (p + 1) ≡ true)
+    parts = and-true (isThere (d p) && (not (isTrue (d p)) || isThere (v p))) (settledFrom v d m (p + 1)) s
+
+    go : (x : Bool) → eqb q p ≡ x → (p + 1 ≤ q → q < p + 1 + m → isTrue (d q) ≡ true → isThere (v q) ≡ true) → isThere (v q) ≡ true
+    go true e ih =
+        let z : q ≡ p = eqb-true q p e in
+        let here : not (isTrue (d p)) || isThere (v p) ≡ true = and-true (isThere (d p)) (not (isTrue (d p)) || isThere (v p)) (parts .0) .1 in
+        rw z (rw (rw z at t) at here)
+    go false e ih =
+        let ne : q ≡ p → ⊥ = eqb-false q p e in
+        ih (omega arith) (omega arith) t
+
 pub ready-holds : (net : NetworkInfo) (strategy : SubsetHandlingStrategy) (encrypted : Bool) (w : List ℕ) (v d t : ℕ → Option ℕ)
     → Holds net strategy encrypted w v d t → isReady (net .«num_nodes») w ≡ true → Ready Holds net encrypted w v d t
 unfolding isReady
@@ -331,6 +349,7 @@ ready-holds net strategy encrypted w v d t h e = go (h .stage)
     go (inr s) = record {
       decided = settled-decided v d n (s .settled);
       accepted = s .accepted;
+      known = λ q l o. settled-known v d n 0 (s .settled) q (omega arith) (omega arith) o;
       plaintext = λ q l o.
           text-word encrypted n w q (isAccepted w q) (v q) (t q) (decrypted-at n n 0 w (two .1) q (omega arith) (omega arith) (s .accepted q l ∙ o)) (h .texts q l);
       enough = s .enough;

@@ -11,3 +11,4 @@ pub mod Contributions
 pub mod Finishing
 pub mod Holds
 pub mod Laws
+pub mod Batches

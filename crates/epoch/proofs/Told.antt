@@ -61,6 +61,7 @@ module _ (Holds : NetworkInfo → SubsetHandlingStrategy → Bool → List ℕ �
   pub record Ready (net : NetworkInfo) (encrypted : Bool) (w : List ℕ) (v d t : ℕ → Option ℕ) : Type 0 where
     pub decided : (q : ℕ) → q < net .«num_nodes» → isThere (d q) ≡ true
     pub accepted : (q : ℕ) → q < net .«num_nodes» → isAccepted w q ≡ isTrue (d q)
+    pub known : (q : ℕ) → q < net .«num_nodes» → isTrue (d q) ≡ true → isThere (v q) ≡ true
     pub plaintext : (q : ℕ) → q < net .«num_nodes» → isTrue (d q) ≡ true → cond encrypted (t q) (v q) ≡ some (getD w (plaintextAt (net .«num_nodes») q) 0)
     pub enough : numCorrect net ≤ onesFrom d (net .«num_nodes») 0
 

@@ -9,4 +9,5 @@ pub mod Past
 pub mod Counting
 pub mod Finished
 pub mod ReadBack
+pub mod Read13
 pub mod Ranges
