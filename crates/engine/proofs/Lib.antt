@@ -18,4 +18,5 @@ pub mod Passes
 pub mod OneRun
 pub mod TwoRuns
 pub mod Agreement
+pub mod Rule
 pub mod Pair

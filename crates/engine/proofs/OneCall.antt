@@ -20,6 +20,7 @@ use Rattle.steps.proofs.Chains.{Good}
 use Rattle.steps.proofs.Read13.{GivesAs, Gives, gives-map, gives-cond, gives-ask, gives-onward, gives-inside, Neither, neither, neither-then, neither-1, thirteens-1, good-tail, outputs-append, faults-append}
 use Rattle.subset.specs.Words.{epochLength, statusAt}
 use Rattle.subset.proofs.After.{AfterAs, After}
+use Rattle.subset.proofs.Votes.{Voted, voted-still, voted-after, voted-before}
 use Rattle.epoch.specs.declared.SubsetHandlingStrategy.{SubsetHandlingStrategy}
 use Rattle.epoch.specs.declared.MessageContent.{MessageContent}
 use Rattle.epoch.specs.Words.{isVacant, isComplete, isAccepted}
@@ -226,6 +227,7 @@ module _ (Holds : NetworkInfo → SubsetHandlingStrategy → Bool → List ℕ �
     pub other : (i : ℕ) → eqb e i ≡ false → (vs′ i ≡ vs i) × (ds′ i ≡ ds i) × (ts′ i ≡ ts i)
     pub told : thirteensIn ws ≡ rs ++ thirteensIn r
     pub dealt : Dealt (HandOf vs′ ds′ ts′) (batchesAmong (outputs log)) rs (fivesAmong (faults log))
+    pub votes : Voted net (vs e) (ds e) ws r
 
   -- it did nothing
   unmoved : (w : List ℕ) (cur : ℕ) (vs ds ts : Tk) (e : ℕ) (who : Option ℕ) (ws : List Rec) (log : List Entry) → SimOf w cur vs ds ts → outputs log ≡ [] → fivesAmong (faults log) ≡ []
@@ -244,6 +246,7 @@ module _ (Holds : NetworkInfo → SubsetHandlingStrategy → Bool → List ℕ �
     other = λ i z. (refl, refl, refl);
     told = refl;
     dealt = rw (o, f) no-batch;
+    votes = voted-still net (vs e) (ds e) ws ws (λ q. refl) (λ q. refl);
   }
 
   -- the epoch was built first
@@ -263,6 +266,7 @@ module _ (Holds : NetworkInfo → SubsetHandlingStrategy → Bool → List ℕ �
         other = k .other;
         told = b .told ∙ k .told;
         dealt = k .dealt;
+        votes = voted-before net (vs e) (ds e) ws r z (b .nothing .value) (b .nothing .early) (b .nothing .asks) (k .votes);
       })
 
   abbrev upd : Tk → ℕ → (ℕ → Option ℕ) → Tk
@@ -290,6 +294,7 @@ module _ (Holds : NetworkInfo → SubsetHandlingStrategy → Bool → List ℕ �
         other = λ i i≢. (rw i≢, rw i≢, rw i≢);
         told = t .thirteens ∙ b .told;
         dealt = rw (os, fs) (b .dealt);
+        votes = voted-after net (vs e) (ds e) ws r z (b .nothing .value) (b .nothing .decision) (t .votes);
       }
 
   spoken : (w : List ℕ) (cur : ℕ) (vs ds ts : Tk) (e : ℕ) (who : Option ℕ) (ws : List Rec) (r : Run (List ℕ) (Unit {0})) → cur ≤ e → e ≤ cur + ahead w₀ → SimOf w cur vs ds ts

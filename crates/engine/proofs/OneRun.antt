@@ -1,8 +1,8 @@
--- A whole run: its words know its history, and every batch is dealt by what the whole history took. An epoch's laws are parameters. Assumes nothing.
+-- A whole run: its words know its history to the end, every batch is dealt by what the whole history took, and the votes of every call. An epoch's laws are parameters. Assumes nothing.
 use Prim.Native.Nat.{ℕ, _+_, _-_, _≤_, _<_, max}
 use native.Mathlib.Nat.{max-eq-left, max-eq-right}
 use native.Mathlib.Omega.{arith}
-use mathlib.Core.Path.{_≡_, refl, sym, ap, _∙_, subst₃, fun-ext}
+use mathlib.Core.Path.{_≡_, refl, sym, ap, _∙_, subst₂, subst₃, fun-ext}
 use mathlib.Core.List.{List, [], _∷_, _++_, append-nil}
 use mathlib.Core.Bool.{Bool, true, false, cond, not, _&&_}
 use mathlib.Core.Option.{Option, none, some}
@@ -19,6 +19,7 @@ use Rattle.steps.proofs.Laws.{and-true}
 use Rattle.steps.proofs.Chains.{orElse-none, orElse-assoc, Good, table-good}
 use Rattle.steps.proofs.Read13.{gives-out}
 use Rattle.subset.proofs.Taken.{Grown, grown-or}
+use Rattle.subset.proofs.Votes.{Voted}
 use Rattle.epoch.specs.declared.SubsetHandlingStrategy.{SubsetHandlingStrategy}
 use Rattle.epoch.specs.declared.MessageContent.the-variants.{Broadcast, Agreement, DecryptionShare}
 use Rattle.epoch.proofs.Told.{fivesAmong, shareOf, EpochLaws}
@@ -28,6 +29,7 @@ use Rattle.engine.specs.Calls.{countFaults, proposeCall, contentOk, cont
 use Rattle.engine.specs.Laws.{Skipped}
 use Rattle.engine.specs.History.{Call, turnOf, stateAfter, turns, noneFails, Batch, batchesOf, fivesOf, Event, event, eventsOf, currentAfter, history, taken, decrypted}
 use Rattle.engine.specs.History.{propose as proposing, message as messaging, skip as skipping}
+use Rattle.engine.specs.Rule.{stateAfterAll}
 use Rattle.engine.proofs.Skips.{skip-stays, skip-moves, skip-state}
 use Rattle.engine.proofs.Shown.{batchesAmong, batches-read, fives-read}
 use Rattle.engine.proofs.Handout.{Tk, textsOf, Hand, handout-later, Dealt, dealt-map, AllDealt}
@@ -66,6 +68,21 @@ upto-taken is t x h = fun-ext (λ i. fun-ext (λ q. orElse-assoc (t i q) (cond (
 upto-decrypted : (t : Tk) (x : Event) (h : List Event) → upto decrypted (newT t x) h ≡ upto decrypted t (x ∷ h)
 unfolding decrypted
 upto-decrypted t x h = fun-ext (λ i. fun-ext (λ q. orElse-assoc (t i q) (cond (eqb (x .epoch) i) (firstDecrypted q (x .shareOf) (x .answers)) none) (decrypted h i q)))
+
+-- the votes of every event, where vs and ds were taken before
+unfoldable pub AllVoted : NetworkInfo → Tk → Tk → List Event → Type 0
+AllVoted net vs ds [] = Unit {0}
+AllVoted net vs ds (x ∷ xs) = Voted net (vs (x .epoch)) (ds (x .epoch)) (x .answers) [] × AllVoted net (newV vs x) (newD ds x) xs
+
+-- of the event behind h, by what was taken in h
+pub voted-at : (net : NetworkInfo) (h : List Event) (x : Event) (l : List Event) (vs ds : Tk) → AllVoted net vs ds (h ++ (x ∷ l))
+    → Voted net (upto (taken ofValue) vs h (x .epoch)) (upto (taken ofDecision) ds h (x .epoch)) (x .answers) []
+unfolding AllVoted taken
+voted-at net [] x l vs ds a =
+    subst₂ (λ (f g : ℕ → Option ℕ). Voted net f g (x .answers) []) (fun-ext (λ q. sym (orElse-none (vs (x .epoch) q)))) (fun-ext (λ q. sym (orElse-none (ds (x .epoch) q)))) (a .0)
+voted-at net (y ∷ h) x l vs ds a =
+    subst₂ (λ (f g : Tk). Voted net (f (x .epoch)) (g (x .epoch)) (x .answers) []) (upto-taken ofValue vs y h) (upto-taken ofDecision ds y h)
+    (voted-at net h x l (newV vs y) (newD ds y) (a .1))
 
 -- a batch stays as it is while more is taken
 hand-later : (n f : ℕ) (encrypted : ℕ → Bool) (vs ds ts vs′ ds′ ts′ : Tk) → ((e q : ℕ) → Grown (vs e q) (vs′ e q)) → ((e q : ℕ) → Grown (ds e q) (ds′ e q)) → ((e q : ℕ) → Grown (ts e q) (ts′ e q))
@@ -131,6 +148,7 @@ module _ (Holds : NetworkInfo → SubsetHandlingStrategy → Bool → List ℕ �
   record Stepped (cur : ℕ) (vs ds ts : Tk) (x : Event) (w : List ℕ) : Type 0 where
     sim : SimOf w (cur + length (x .batches)) (newV vs x) (newD ds x) (newT ts x)
     dealt : Dealt (HandOf (newV vs x) (newD ds x) (newT ts x)) (x .batches) (thirteensIn (x .answers)) (x .fives)
+    votes : Voted (netOf w₀) (vs (x .epoch)) (ds (x .epoch)) (x .answers) []
 
   sim-count : (w : List ℕ) (cur : ℕ) (vs ds ts : Tk) (log : List Entry) → SimOf w cur vs ds ts → SimOf (countFaults w log) cur vs ds ts
   unfolding countFaults
@@ -151,6 +169,7 @@ module _ (Holds : NetworkInfo → SubsetHandlingStrategy → Bool → List ℕ �
         sim = rw b (sim-count w (cur + length (batchesAmong (outputs log))) (newV vs x) (newD ds x) (newT ts x) log
             (subst₃ (λ (g h k : Tk). SimOf w (cur + length (batchesAmong (outputs log))) g h k) ev ed et (m .sim)));
         dealt = rw (b, f, m .told, append-nil (m .rs)) (subst₃ (λ (g h k : Tk). Dealt (HandOf g h k) (batchesAmong (outputs log)) (m .rs) (fivesAmong (faults log))) ev ed et (m .dealt));
+        votes = m .votes;
       }
 
   proposed : (w : List ℕ) (cur : ℕ) (vs ds ts : Tk) → SimOf w cur vs ds ts → (scratch answers step : List ℕ) → proposeCall w scratch answers step .reply ≡ 0
@@ -233,32 +252,64 @@ module _ (Holds : NetworkInfo → SubsetHandlingStrategy → Bool → List ℕ �
         k,
       )
 
+  -- a run with the history h left the words w
+  pub record Ran (vs ds ts : Tk) (h : List Event) (w : List ℕ) : Type 0 where
+    pub last : ℕ
+    pub sim : SimOf w last (upto (taken ofValue) vs h) (upto (taken ofDecision) ds h) (upto decrypted ts h)
+    pub dealt : Ends vs ds ts h
+    pub voted : AllVoted (netOf w₀) vs ds h
+
+  ran-nothing : (w : List ℕ) (cur : ℕ) (vs ds ts : Tk) → SimOf w cur vs ds ts → Ran vs ds ts [] w
+  unfolding AllDealt AllVoted taken decrypted
+  ran-nothing w cur vs ds ts h = record {
+    last = cur;
+    sim = subst₃ (λ (a b c : Tk). SimOf w cur a b c) (still vs) (still ds) (still ts) h;
+    dealt = tt;
+    voted = tt;
+  }
+    where
+      still : (t : Tk) → t ≡ (λ i q. orElse (t i q) none)
+      still t = fun-ext (λ i. fun-ext (λ q. sym (orElse-none (t i q))))
+
+  ran-event : (cur : ℕ) (vs ds ts : Tk) (x : Event) (w w′ : List ℕ) (h : List Event) → Stepped cur vs ds ts x w → Ran (newV vs x) (newD ds x) (newT ts x) h w′ → Ran vs ds ts (x ∷ h) w′
+  unfolding AllVoted
+  ran-event cur vs ds ts x w w′ h s k = record {
+    last = k .last;
+    sim = subst₃ (λ (a b c : Tk). SimOf w′ (k .last) a b c) (upto-taken ofValue vs x h) (upto-taken ofDecision ds x h) (upto-decrypted ts x h) (k .sim);
+    dealt = ends-event cur vs ds ts x w h s (k .dealt);
+    voted = (s .votes, k .voted);
+  }
+
   abbrev Onward : List Call → Type 0
-  Onward cs = (w : List ℕ) (cur : ℕ) (vs ds ts : Tk) → SimOf w cur vs ds ts → noneFails (turns w cs) ≡ true → Ends vs ds ts (history cur (turns w cs))
+  Onward cs = (w : List ℕ) (cur : ℕ) (vs ds ts : Tk) → SimOf w cur vs ds ts → noneFails (turns w cs) ≡ true → Ran vs ds ts (history cur (turns w cs)) (stateAfterAll w cs)
 
   -- one call with reply 0
   zero-ok : (c : Call) (cs : List Call) → Onward cs → (w : List ℕ) (cur : ℕ) (vs ds ts : Tk) → SimOf w cur vs ds ts → turnOf w c .reply ≡ 0 → noneFails (turns (stateAfter w c) cs) ≡ true
-      → Ends vs ds ts (eventsOf cur (turnOf w c .call) (turnOf w c .step) ++ history (currentAfter cur (turnOf w c .call) (turnOf w c .step)) (turns (stateAfter w c) cs))
+      → Ran vs ds ts (eventsOf cur (turnOf w c .call) (turnOf w c .step) ++ history (currentAfter cur (turnOf w c .call) (turnOf w c .step)) (turns (stateAfter w c) cs)) (stateAfterAll (stateAfter w c) cs)
   unfolding turnOf stateAfter eventsOf currentAfter
   zero-ok (proposing scratch answers step) cs ih w cur vs ds ts h e n =
       let s = proposed w cur vs ds ts h scratch answers step e in
-      ends-event cur vs ds ts _ _ _ s (ih _ _ _ _ _ (s .sim) n)
+      ran-event cur vs ds ts _ _ _ _ s (ih _ _ _ _ _ (s .sim) n)
   zero-ok (messaging sender epoch content proposer item scratch answers step) cs ih w cur vs ds ts h e n =
       let s = handled w cur vs ds ts h sender epoch content proposer item scratch answers step e in
-      ends-event cur vs ds ts _ _ _ s (ih _ _ _ _ _ (s .sim) n)
+      ran-event cur vs ds ts _ _ _ _ s (ih _ _ _ _ _ (s .sim) n)
   zero-ok (skipping target) cs ih w cur vs ds ts h e n = ih _ _ vs ds ts (skipped w cur vs ds ts h target e) n
 
-  pub run-ok : (cs : List Call) → Onward cs
-  unfolding turns noneFails history AllDealt
-  run-ok [] w cur vs ds ts h n = tt
-  run-ok (c ∷ cs) w cur vs ds ts h n = go (eqb (turnOf w c .reply) 0) refl (run-ok cs)
+  pub run-all : (cs : List Call) → Onward cs
+  unfolding turns noneFails history stateAfterAll
+  run-all [] w cur vs ds ts h n = ran-nothing w cur vs ds ts h
+  run-all (c ∷ cs) w cur vs ds ts h n = go (eqb (turnOf w c .reply) 0) refl (run-all cs)
     where
       parts : (ltb (turnOf w c .reply) 20 ≡ true) × (noneFails (turns (stateAfter w c) cs) ≡ true)
       parts = and-true (ltb (turnOf w c .reply) 20) (noneFails (turns (stateAfter w c) cs)) n
 
       go : (t : Bool) → eqb (turnOf w c .reply) 0 ≡ t → Onward cs
-          → Ends vs ds ts (cond t (eventsOf cur (turnOf w c .call) (turnOf w c .step)) [] ++ history (cond t (currentAfter cur (turnOf w c .call) (turnOf w c .step)) cur) (turns (stateAfter w c) cs))
+          → Ran vs ds ts (cond t (eventsOf cur (turnOf w c .call) (turnOf w c .step)) [] ++ history (cond t (currentAfter cur (turnOf w c .call) (turnOf w c .step)) cur) (turns (stateAfter w c) cs))
+          (stateAfterAll (stateAfter w c) cs)
       go true e ih = zero-ok c cs ih w cur vs ds ts h (eqb-true (turnOf w c .reply) 0 e) (parts .1)
       go false e ih =
           ih (stateAfter w c) cur vs ds ts
           (rw (other-leaves w c (ltb-true (turnOf w c .reply) 20 (parts .0)) (eqb-false (turnOf w c .reply) 0 e)) h) (parts .1)
+
+  pub run-ok : (cs : List Call) (w : List ℕ) (cur : ℕ) (vs ds ts : Tk) → SimOf w cur vs ds ts → noneFails (turns w cs) ≡ true → Ends vs ds ts (history cur (turns w cs))
+  run-ok cs w cur vs ds ts h n = run-all cs w cur vs ds ts h n .dealt

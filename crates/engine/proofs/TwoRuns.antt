@@ -39,7 +39,7 @@ all-vacant c e =
     eq-eqb (getD (epochWords (created c) e) 0 0) 0
     (getD-take l (drop p (created c)) 0 0 (omega arith) ∙ (getD-drop p (created c) 0 0 ∙ created-zeros c (p + 0) (omega arith)))
 
-network-of : (c : Numbers) → numbersOk c ≡ true → Network (netOf (created c))
+pub network-of : (c : Numbers) → numbersOk c ≡ true → Network (netOf (created c))
 unfolding netOf created numbersOk
 network-of c ok =
     let a = and-true _ _ ok in
@@ -73,13 +73,13 @@ encrypted-as : (c : Numbers) → encryptedIn (created c) ≡ useOnEpoch (schedul
 unfolding encryptedIn created
 encrypted-as c = fun-ext (λ e. ap (λ s. useOnEpoch s e) (schedule-same (c .schedule) (c .first) (c .second)))
 
-state-is : (c : Numbers) (w : List ℕ) → createReply c w ≡ 0 → createState c w ≡ created c
+pub state-is : (c : Numbers) (w : List ℕ) → createReply c w ≡ 0 → createState c w ≡ created c
 unfolding createState
 state-is c w e = rw (eq-eqb (createReply c w) 0 e)
 
 module _ (Holds : NetworkInfo → SubsetHandlingStrategy → Bool → List ℕ → (ℕ → Option ℕ) → (ℕ → Option ℕ) → (ℕ → Option ℕ) → Type 0)
     (laws : EpochLaws Holds) where
-  started : (c : Numbers) → Sim Holds (created c) (created c) (c .epoch) (λ _ _. none) (λ _ _. none) (λ _ _. none)
+  pub started : (c : Numbers) → Sim Holds (created c) (created c) (c .epoch) (λ _ _. none) (λ _ _. none) (λ _ _. none)
   unfolding created
   started c = record {
     shaped = record { long = length-created c; nodes = refl; ahead = refl };

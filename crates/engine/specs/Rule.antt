@@ -1,5 +1,5 @@
--- THE PAPER'S RULE (Miller et al., CCS 2016, as document 01 words it) over one run of the engine without a failing call: `EngineRule`. It is
--- stated here, owed: a statement without a proof of it claims nothing (docs/EVIDENCE.md). And the range rule over every call, which is proved.
+-- THE PAPER'S RULE (Miller et al., CCS 2016, as document 01 words it) over one run of the engine without a failing call: `EngineRule`,
+-- proved as `engine-rule` in proofs/Rule.antt. And the range rule over every call.
 use Prim.Native.Nat.{ℕ, _+_, _≤_, _<_}
 use mathlib.Core.Path.{_≡_}
 use mathlib.Core.List.{List, [], _∷_, _++_, List·Memᴰ}

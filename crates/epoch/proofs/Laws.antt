@@ -14,6 +14,7 @@ use borrow.Author.Tests.{eqb-true, eqb-false}
 use Rattle.steps.specs.declared.network_info.NetworkInfo.{NetworkInfo}
 use Rattle.steps.specs.Network.{Network}
 use Rattle.steps.specs.Answers.{Rec, Tape}
+use Rattle.steps.specs.Table.{within}
 use Rattle.steps.specs.Runs.{Verdict, going, refused, failed, Run}
 use Rattle.steps.specs.Taken.{orElse, isThere, isTrue, ofValue, ofDecision}
 use Rattle.steps.proofs.Laws.{and-true}
@@ -25,6 +26,7 @@ use Rattle.subset.specs.Subset.{propose as proposeSubset, handleMessage as hand
 use Rattle.subset.specs.Rule.{isOver, settledFrom, proposing, broadcasting, agreeing, callSubset as callRule}
 use Rattle.subset.proofs.After.{After, after-map, after-cond, after-onward}
 use Rattle.subset.proofs.Calls.{Called, call-ok}
+use Rattle.subset.proofs.Votes.{voted-still, voted-called, voted-after, voted-before, past-asks}
 use Rattle.subset.proofs.Rule.{blank-over, blank-word, blank-held}
 use Rattle.subset.proofs.Held.{Held}
 use Rattle.subset.proofs.Taken.{put-same, put-other, more}
@@ -59,13 +61,14 @@ told-still net strategy encrypted w v d t who ws h g = record {
   decision = λ q. refl;
   text = λ q. refl;
   thirteens = refl;
+  votes = voted-still net v d ws ws (λ q. refl) (λ q. refl);
 }
 
 -- answers before a call that tell nothing
-told-before : (is : ℕ → Bool) → Others is ofValue → Others is ofDecision → Others is (λ k. eqb k 8) → Others is (λ k. eqb k 12) → Others is (λ k. eqb k 13)
+told-before : (is : ℕ → Bool) → Others is ofValue → Others is ofDecision → Others is (within 5 6) → Others is (λ k. eqb k 8) → Others is (λ k. eqb k 12) → Others is (λ k. eqb k 13)
     → (net : NetworkInfo) (strategy : SubsetHandlingStrategy) (encrypted : Bool) (v d t : ℕ → Option ℕ) (who : Option ℕ) (ws r : List Rec) (w : List ℕ) (z : List Rec)
     → Past is ws r → Told Holds net strategy encrypted v d t who r w z → Told Holds net strategy encrypted v d t who ws w z
-told-before is f g e tw th net strategy encrypted v d t who ws r w z p k = record {
+told-before is f g early e tw th net strategy encrypted v d t who ws r w z p k = record {
   v′ = k .v′;
   d′ = k .d′;
   t′ = k .t′;
@@ -77,6 +80,7 @@ told-before is f g e tw th net strategy encrypted v d t who ws r w z p k = recor
   decision = λ q. ap (orElse (d q)) (past-first is ofDecision g p q) ∙ k .decision q;
   text = λ q. ap (orElse (t q)) (past-decrypted is e tw p q who) ∙ k .text q;
   thirteens = past-thirteens is th p ∙ k .thirteens;
+  votes = voted-before net v d ws r z (past-first is ofValue f p) (past-first is (within 5 6) early p) (past-asks is ws r p) (k .votes);
 }
 
 -- A SHARE
@@ -125,6 +129,7 @@ module _ (net : NetworkInfo) (strategy : SubsetHandlingStrategy) (encrypted : Bo
         decision = λ q. ap (orElse (d q)) (past-first decryptionKinds ofDecision decryption-decision (a .ran .past) q);
         text = o .text;
         thirteens = past-thirteens decryptionKinds decryption-thirteen (a .ran .past);
+        votes = voted-still net v d ws r (past-first decryptionKinds ofValue decryption-value (a .ran .past)) (past-first decryptionKinds ofDecision decryption-decision (a .ran .past));
       }
 
 -- A CALL OF THE SUBSET, and what it hands up
@@ -153,6 +158,9 @@ module _ (net : NetworkInfo) (strategy : SubsetHandlingStrategy) (encrypted : Bo
         decision = λ q. c .linked .decision q ∙ ap (orElse (c .d′ q)) (past-first decryptionKinds ofDecision decryption-decision (p .opening .past) q);
         text = λ q. ap (orElse (t q)) (past-decrypted subsetKinds subset-eight subset-twelve past q who) ∙ p .opening .text q;
         thirteens = past-thirteens subsetKinds subset-thirteen past ∙ past-thirteens decryptionKinds decryption-thirteen (p .opening .past);
+        votes =
+            voted-after net v d ws (u .rest) (z .rest) (past-first decryptionKinds ofValue decryption-value (p .opening .past))
+            (past-first decryptionKinds ofDecision decryption-decision (p .opening .past)) (voted-called net v d old ws done w₁ (u .rest) c);
       })
     where
       bit : (q : ℕ) → isAccepted w₁ q ≡ isAccepted w q
@@ -244,7 +252,7 @@ module _ (net : NetworkInfo) (strategy : SubsetHandlingStrategy) (encrypted : Bo
       after-cond (eqb a 0) _ _ _ tt
       (after-map (callSubset net strategy encrypted (proposeSubset net 22) w z) _ _
       (subset-ok (proposeSubset net 22) (proposes net) z none (past-good serialised (net .«num_nodes») two g)) (λ _ w′ y k.
-      told-before serialised (λ k e. rw (eqb-true k 2 e)) (λ k e. rw (eqb-true k 2 e)) (λ k e. rw (eqb-true k 2 e)) (λ k e. rw (eqb-true k 2 e)) (λ k e. rw (eqb-true k 2 e))
+      told-before serialised (λ k e. rw (eqb-true k 2 e)) (λ k e. rw (eqb-true k 2 e)) (λ k e. rw (eqb-true k 2 e)) (λ k e. rw (eqb-true k 2 e)) (λ k e. rw (eqb-true k 2 e)) (λ k e. rw (eqb-true k 2 e))
       net strategy encrypted v d t none (u .rest) (z .rest) w′ (y .rest) two k)))
     where
       serialised : ℕ → Bool

@@ -14,6 +14,7 @@ use Rattle.steps.specs.Taken.{orElse, isThere, isTrue, firstTaken, ofValue, ofD
 use Rattle.steps.proofs.Chains.{Good}
 use Rattle.subset.specs.Words.{epochLength}
 use Rattle.subset.proofs.After.{After}
+use Rattle.subset.proofs.Votes.{Voted}
 use Rattle.epoch.specs.declared.SubsetHandlingStrategy.{SubsetHandlingStrategy}
 use Rattle.epoch.specs.declared.MessageContent.{MessageContent}
 use Rattle.epoch.specs.declared.MessageContent.the-variants.{Broadcast, Agreement, DecryptionShare}
@@ -56,6 +57,7 @@ module _ (Holds : NetworkInfo → SubsetHandlingStrategy → Bool → List ℕ �
     pub decision : (q : ℕ) → orElse (d q) (firstTaken ofDecision q ws) ≡ orElse (d′ q) (firstTaken ofDecision q r)
     pub text : (q : ℕ) → orElse (t q) (firstDecrypted q who ws) ≡ orElse (t′ q) (firstDecrypted q who′ r)
     pub thirteens : thirteensIn ws ≡ thirteensIn r
+    pub votes : Voted net v d ws r
 
   -- an epoch that is ready
   pub record Ready (net : NetworkInfo) (encrypted : Bool) (w : List ℕ) (v d t : ℕ → Option ℕ) : Type 0 where

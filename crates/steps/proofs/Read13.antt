@@ -2,14 +2,15 @@
 use Prim.Native.Nat.{ℕ}
 use mathlib.Core.Path.{_≡_, refl, _∙_}
 use mathlib.Core.List.{List, [], _∷_, _++_}
-use mathlib.Core.Bool.{Bool, true, false, cond, _&&_}
+use mathlib.Core.Bool.{Bool, true, false, cond, _&&_, _||_}
 use mathlib.Core.Option.{Option}
 use lib.Dec.{eqb}
 use borrow.Author.Tests.{eqb-true}
 use Rattle.steps.specs.Answers.{Rec, Tape, tape, askFor, ask, askAbout}
+use Rattle.steps.specs.Table.{within}
 use Rattle.steps.specs.Steps.{Entry, message, fault, output, faults, outputs}
 use Rattle.steps.specs.Runs.{Verdict, going, refused, failed, Run, before, onwardAs, onward, heardAs, heard, inside}
-use Rattle.steps.specs.Taken.{orElse, firstTaken, ofValue, ofDecision, concernedAfter, firstDecrypted, thirteensIn}
+use Rattle.steps.specs.Taken.{orElse, firstTaken, ofValue, ofDecision, asked, concernedAfter, firstDecrypted, thirteensIn}
 use Rattle.steps.proofs.Laws.{and-true}
 use Rattle.steps.proofs.Chains.{Good, GoodFrom}
 
@@ -97,21 +98,46 @@ pub record Neither (ws r : List Rec) : Type 0 where
   pub value : (q : ℕ) → firstTaken ofValue q ws ≡ firstTaken ofValue q r
   pub decision : (q : ℕ) → firstTaken ofDecision q ws ≡ firstTaken ofDecision q r
   pub text : (q : ℕ) (who : Option ℕ) → firstDecrypted q who ws ≡ firstDecrypted q who r
+  -- nor a decision by a 5 or 6, and what is asked for in r is asked for in ws
+  pub early : (q : ℕ) → firstTaken (within 5 6) q ws ≡ firstTaken (within 5 6) q r
+  pub asks : (kind q : ℕ) → asked kind q r ≡ true → asked kind q ws ≡ true
 
 pub neither : (ws : List Rec) → Neither ws ws
-neither ws = record { value = λ q. refl; decision = λ q. refl; text = λ q who. refl }
+neither ws = record { value = λ q. refl; decision = λ q. refl; text = λ q who. refl; early = λ q. refl; asks = λ kind q e. e }
 
 pub neither-then : {ws r z : List Rec} → Neither ws r → Neither r z → Neither ws z
-neither-then a b = record { value = λ q. a .value q ∙ b .value q; decision = λ q. a .decision q ∙ b .decision q; text = λ q who. a .text q who ∙ b .text q who }
+neither-then a b = record {
+  value = λ q. a .value q ∙ b .value q;
+  decision = λ q. a .decision q ∙ b .decision q;
+  text = λ q who. a .text q who ∙ b .text q who;
+  early = λ q. a .early q ∙ b .early q;
+  asks = λ kind q e. a .asks kind q (b .asks kind q e);
+}
+
+or-right : (x y : Bool) → y ≡ true → x || y ≡ true
+or-right true y e = refl
+or-right false y e = e
 
 module _ (r : Rec) (rs : List Rec) where
   pub neither-1 : r .kind ≡ 1 → Neither (r ∷ rs) rs
-  unfolding firstTaken firstDecrypted concernedAfter orElse
-  neither-1 e = record { value = λ q. rw e; decision = λ q. rw e; text = λ q who. rw e }
+  unfolding firstTaken firstDecrypted concernedAfter orElse asked
+  neither-1 e = record {
+    value = λ q. rw e;
+    decision = λ q. rw e;
+    text = λ q who. rw e;
+    early = λ q. rw e;
+    asks = λ kind q h. or-right (eqb (r .kind) kind && eqb (r .b) q) (asked kind q rs) h;
+  }
 
   pub neither-13 : r .kind ≡ 13 → Neither (r ∷ rs) rs
-  unfolding firstTaken firstDecrypted concernedAfter orElse
-  neither-13 e = record { value = λ q. rw e; decision = λ q. rw e; text = λ q who. rw e }
+  unfolding firstTaken firstDecrypted concernedAfter orElse asked
+  neither-13 e = record {
+    value = λ q. rw e;
+    decision = λ q. rw e;
+    text = λ q who. rw e;
+    early = λ q. rw e;
+    asks = λ kind q h. or-right (eqb (r .kind) kind && eqb (r .b) q) (asked kind q rs) h;
+  }
 
   pub thirteens-1 : r .kind ≡ 1 → thirteensIn (r ∷ rs) ≡ thirteensIn rs
   unfolding thirteensIn

@@ -1,7 +1,7 @@
 -- What a call of the subset does to what was taken, which votes it asks for, and when it is done. Assumes nothing.
 use Prim.Native.Nat.{ℕ, zero, suc, _+_, _≤_, _<_}
 use mathlib.Core.Path.{_≡_, refl, sym, ap, _∙_}
-use mathlib.Core.List.{List, []}
+use mathlib.Core.List.{List}
 use mathlib.Core.Bool.{Bool, true, false, cond, _&&_, false≢true}
 use mathlib.Core.Option.{Option, none, some}
 use native.Mathlib.Omega.{arith}
@@ -427,7 +427,7 @@ module _ (old : ℕ → Bool) where
     pub says : isOver net v d ≡ false → done ≡ isOver net v′ d′
     pub linked : Linked v d v′ d′ ws r
     pub voteOne : (q x : ℕ) → v q ≡ none → d q ≡ none → v′ q ≡ some x → asked 6 q ws ≡ true
-    pub voteZero : r ≡ [] → (q : ℕ) → q < net .«num_nodes» → onesFrom d (net .«num_nodes») 0 < numCorrect net
+    pub voteZero : ((p : ℕ) → firstTaken (within 5 6) p r ≡ none) → (q : ℕ) → q < net .«num_nodes» → onesFrom d (net .«num_nodes») 0 < numCorrect net
         → numCorrect net ≤ onesFrom (λ p. orElse (d p) (firstTaken (within 5 6) p ws)) (net .«num_nodes») 0
         → orElse (d q) (firstTaken (within 5 6) q ws) ≡ none → asked 7 q ws ≡ true
 
@@ -445,7 +445,7 @@ module _ (old : ℕ → Bool) where
     voteZero = λ e q l few many o.
         let n = net .«num_nodes» in
         let before : (p : ℕ) → orElse (d p) (firstTaken (within 5 6) p ws) ≡ a .d′ p =
-        λ p. a .early p ∙ ap (orElse (a .d′ p)) (b .early p ∙ ap (firstTaken (within 5 6) p) e) ∙ orElse-none (a .d′ p) in
+        λ p. a .early p ∙ ap (orElse (a .d′ p)) (b .early p ∙ e p) ∙ orElse-none (a .d′ p) in
         let ones : onesFrom (a .d′) n 0 ≡ numCorrect net = omega (arith, ones-same _ (a .d′) before n 0, a .one) in
         a .linked .asks 7 q (b .asks (over-few net v d few) ones q l (sym (before q) ∙ o));
   }
@@ -462,7 +462,7 @@ module _ (old : ℕ → Bool) where
     voteOne = λ q x a b c. none-some (v q) x a c;
     voteZero = λ z q l few many o.
         let n = net .«num_nodes» in
-        let before : (p : ℕ) → orElse (d p) (firstTaken (within 5 6) p ws) ≡ d p = λ p. ap (λ l. orElse (d p) (firstTaken (within 5 6) p l)) z ∙ orElse-none (d p) in
+        let before : (p : ℕ) → orElse (d p) (firstTaken (within 5 6) p ws) ≡ d p = λ p. ap (orElse (d p)) (z p) ∙ orElse-none (d p) in
         absurd (omega (arith, ones-same _ d before n 0));
   }
 

@@ -9,3 +9,4 @@ pub mod Calls
 pub mod Rule
 pub mod Worked
 pub mod Ranges
+pub mod Votes

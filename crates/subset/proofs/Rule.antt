@@ -57,7 +57,7 @@ next-call net v d ws w′ done c =
     record {
       known = subst₂ (λ (a b : ℕ → Option ℕ). Known net w′ a b) (fun-ext values) (fun-ext decisions) (record { held = c .held; decided = c .decided });
       voteOne = λ q x e f k. c .voteOne q x e f (values q ∙ rw e k);
-      voteZero = λ q l few many e. c .voteZero refl q l few many e;
+      voteZero = λ q l few many e. c .voteZero (λ p. refl) q l few many e;
     }
 
 module _ (net : NetworkInfo) (v d : ℕ → Option ℕ) where

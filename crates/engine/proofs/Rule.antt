@@ -1,0 +1,134 @@
+-- THE PAPER'S RULE over one run without a failing call, `engine-rule`: complete epochs, accepted proposers, epochs handed out, and votes. Assumes nothing.
+use Prim.Native.Nat.{ℕ, zero, suc, _+_, _≤_, _<_}
+use native.Mathlib.Omega.{arith}
+use mathlib.Core.Path.{_≡_, refl, sym, subst}
+use mathlib.Core.Logic.{_⊎_, inl, inr}
+use mathlib.Core.List.{List, _∷_, _++_, List·Memᴰ}
+use mathlib.Core.Bool.{Bool, true, false, _||_, not}
+use mathlib.Core.Option.{Option, none}
+use lib.ListN.{getD}
+use borrow.Author.Tests.{eqb-true, le-leb}
+use Rattle.steps.specs.declared.network_info.NetworkInfo.{NetworkInfo}
+use Rattle.steps.specs.Network.{Network, numCorrect}
+use Rattle.steps.specs.Taken.{orElse, isThere, isTrue, firstTaken, onesFrom}
+use Rattle.subset.specs.Words.{statusAt}
+use Rattle.subset.specs.Rule.{settledFrom, isOver}
+use Rattle.subset.proofs.Rule.{blank-over}
+use Rattle.epoch.specs.declared.SubsetHandlingStrategy.{SubsetHandlingStrategy}
+use Rattle.epoch.specs.Words.{isComplete, isAccepted}
+use Rattle.epoch.proofs.Holds.{Going, Done, Holds}
+use Rattle.epoch.proofs.Laws.{epoch-laws}
+use Rattle.engine.specs.State.{ahead, currentEpoch, netOf, epochWords}
+use Rattle.engine.specs.Create.{Numbers, created, createState}
+use Rattle.engine.specs.History.{Call, turns, noneFails, Event, history, valueTaken, decisionTaken, decrypted, Handed, handed}
+use Rattle.engine.specs.Claim.{Made, Sound, historyOf, encryptedOf}
+use Rattle.engine.specs.Rule.{stateAfterAll, endOf, netIn, Votes, EngineRule}
+use Rattle.engine.proofs.Created.{create-passes}
+use Rattle.engine.proofs.Handout.{Tk, InAll, all-at, all-handed}
+use Rattle.engine.proofs.Invariant.{Slot, vacant, lives, Sim}
+use Rattle.engine.proofs.OneRun.{AllVoted, voted-at, run-all}
+use Rattle.engine.proofs.TwoRuns.{network-of, state-is, started, run-dealt}
+
+-- WHAT A RUN'S LAST WORDS KNOW
+abbrev untaken : Tk
+untaken e q = none
+
+record Known (w₀ : List ℕ) (c : Numbers) (cs : List Call) : Type 0 where
+  last : ℕ
+  sim : Sim Holds w₀ (stateAfterAll w₀ cs) last (valueTaken (history (c .epoch) (turns w₀ cs))) (decisionTaken (history (c .epoch) (turns w₀ cs))) (decrypted (history (c .epoch) (turns w₀ cs)))
+  voted : AllVoted (netOf w₀) untaken untaken (history (c .epoch) (turns w₀ cs))
+  network : Network (netOf w₀)
+  nodes : netOf w₀ .«num_nodes» ≡ c .nodes
+  faulty : netOf w₀ .«num_faulty» ≡ c .faulty
+
+known : (m : Made) → Sound m → Known (createState (m .numbers) (m .words)) (m .numbers) (m .calls)
+unfolding orElse netOf created
+known m s =
+    let e = state-is (m .numbers) (m .words) (s .created) in
+    let network = network-of (m .numbers) (create-passes (m .numbers) (m .words) .0 (s .created) .0) in
+    let fine : noneFails (turns (created (m .numbers)) (m .calls)) ≡ true = rw e at (s .unfailing) in
+    let r = run-all Holds epoch-laws (created (m .numbers)) network (m .calls) (created (m .numbers)) (m .numbers .epoch) untaken untaken untaken (started Holds epoch-laws (m .numbers)) fine in
+    subst (λ (w : List ℕ). Known w (m .numbers) (m .calls)) (sym e) (record {
+      last = r .last;
+      sim = r .sim;
+      voted = r .voted;
+      network = network;
+      nodes = refl;
+      faulty = refl;
+    })
+
+-- ONE EPOCH
+module _ (net : NetworkInfo) (strategy : SubsetHandlingStrategy) (encrypted : Bool) (x : List ℕ) (v d t : ℕ → Option ℕ) where
+  slot-complete : Network net → Slot Holds net strategy encrypted x v d t → isComplete x ≡ isOver net v d
+  unfolding isOver
+  slot-complete k (vacant i a b c) = rw (eqb-true (getD x statusAt 0) 0 i, a, b) (sym (blank-over net k))
+  slot-complete k (lives there h) = go (h .stage)
+    where
+      go : Going net strategy x v d ⊎ Done net x v d → isComplete x ≡ isOver net v d
+      go (inl s) = rw (s .status) (sym (s .over))
+      go (inr s) = rw (s .status, s .settled, le-leb (numCorrect net) (onesFrom d (net .«num_nodes») 0) (s .enough))
+
+  slot-accepted : Slot Holds net strategy encrypted x v d t → isComplete x ≡ true → (q : ℕ) → q < net .«num_nodes» → isAccepted x q ≡ isTrue (d q)
+  slot-accepted (vacant i a b c) e q l = absurd (omega (arith, eqb-true (getD x statusAt 0) 0 i, eqb-true (getD x statusAt 0) 2 e))
+  slot-accepted (lives there h) e q l = go (h .stage)
+    where
+      go : Going net strategy x v d ⊎ Done net x v d → isAccepted x q ≡ isTrue (d q)
+      go (inl s) = absurd (omega (arith, s .status, eqb-true (getD x statusAt 0) 2 e))
+      go (inr s) = s .accepted q l
+
+-- COMPLETE EPOCHS
+pub complete-ok : (m : Made) → Sound m → (e : ℕ) → currentEpoch (endOf m) ≤ e → e ≤ currentEpoch (endOf m) + ahead (endOf m)
+    → isComplete (epochWords (endOf m) e) ≡ isOver (netIn m) (valueTaken (historyOf m) e) (decisionTaken (historyOf m) e)
+complete-ok m s e l u =
+    let k = known m s in
+    slot-complete (netIn m) _ _ (epochWords (endOf m) e) (valueTaken (historyOf m) e) (decisionTaken (historyOf m) e) (decrypted (historyOf m) e) (k .network)
+    (k .sim .slots e (omega (arith, k .sim .current)) (omega (arith, k .sim .current, k .sim .shaped .ahead)))
+
+-- ACCEPTED PROPOSERS
+pub accepted-ok : (m : Made) → Sound m → (e p : ℕ) → currentEpoch (endOf m) ≤ e → e ≤ currentEpoch (endOf m) + ahead (endOf m)
+    → isComplete (epochWords (endOf m) e) ≡ true → p < netIn m .«num_nodes»
+    → isAccepted (epochWords (endOf m) e) p ≡ isTrue (decisionTaken (historyOf m) e p)
+accepted-ok m s e p l u c below =
+    let k = known m s in
+    slot-accepted (netIn m) _ _ (epochWords (endOf m) e) (valueTaken (historyOf m) e) (decisionTaken (historyOf m) e) (decrypted (historyOf m) e)
+    (k .sim .slots e (omega (arith, k .sim .current)) (omega (arith, k .sim .current, k .sim .shaped .ahead))) c p below
+
+-- EPOCHS HANDED OUT
+module _ (v d : ℕ → Option ℕ) where
+  settled-all : (m p : ℕ) → ((q : ℕ) → q < p + m → isThere (d q) ≡ true) → ((q : ℕ) → q < p + m → isTrue (d q) ≡ true → isThere (v q) ≡ true) → settledFrom v d m p ≡ true
+  unfolding settledFrom
+  settled-all zero p f g = refl
+  settled-all (suc m) p f g =
+      rw (f p (omega arith), here (isTrue (d p)) refl, settled-all m (p + 1) (λ q l. f q (omega arith)) (λ q l. g q (omega arith)))
+    where
+      here : (x : Bool) → isTrue (d p) ≡ x → not (isTrue (d p)) || isThere (v p) ≡ true
+      here true e = rw (e, g p (omega arith) e)
+      here false e = rw e
+
+  over-all : (net : NetworkInfo) → ((q : ℕ) → q < net .«num_nodes» → isThere (d q) ≡ true) → ((q : ℕ) → q < net .«num_nodes» → isTrue (d q) ≡ true → isThere (v q) ≡ true)
+      → numCorrect net ≤ onesFrom d (net .«num_nodes») 0 → isOver net v d ≡ true
+  unfolding isOver
+  over-all net f g h =
+      rw (settled-all (net .«num_nodes») 0 (λ q l. f q (omega arith)) (λ q l. g q (omega arith)), le-leb (numCorrect net) (onesFrom d (net .«num_nodes») 0) h)
+
+pub handed-ok : (m : Made) → Sound m → (x : Handed) → List·Memᴰ x (handed (m .numbers .nodes) (encryptedOf m) (historyOf m))
+    → isOver (netIn m) (valueTaken (historyOf m) (x .batch .epoch)) (decisionTaken (historyOf m) (x .batch .epoch)) ≡ true
+handed-ok m s x i =
+    let k = known m s in
+    let n = m .numbers .nodes in
+    let f = m .numbers .faulty in
+    let h = historyOf m in
+    let out = all-at (InAll n f (encryptedOf m) h) (handed n (encryptedOf m) h) x (all-handed n f (encryptedOf m) h h (run-dealt Holds epoch-laws m s)) i in
+    over-all (valueTaken h (x .batch .epoch)) (decisionTaken h (x .batch .epoch)) (netIn m)
+    (λ q l. out .decided q (omega (arith, k .nodes))) (λ q l. out .known q (omega (arith, k .nodes))) (rw (k .nodes, k .faulty) (out .enough))
+
+-- VOTES
+pub votes-ok : (m : Made) → Sound m → (h : List Event) (x : Event) (l : List Event) → historyOf m ≡ h ++ (x ∷ l) → Votes (netIn m) h x
+unfolding orElse firstTaken
+votes-ok m s h x l e =
+    let v = voted-at (netIn m) h x l untaken untaken (rw e at (known m s .voted)) in
+    record { one = λ p y below a t b. v .one p y a b t refl; zero = λ p below few many o. v .zero (λ q. refl) p below few many o }
+
+-- THE RULE
+pub engine-rule : EngineRule
+engine-rule m s = record { votes = votes-ok m s; complete = complete-ok m s; accepted = accepted-ok m s; handedOut = handed-ok m s }
