@@ -242,7 +242,7 @@ case-5 =
     ∷ (broadcast 0 (yes 4 0 ∷ []) ⇒ passes)
     ∷ []
 
--- "voting at N−f or more" is wrong: with N 7, f 2 one is left when a vote lifts the count above N−f. Its round goes on, and there is none after
+-- voting at "N−f or more" is wrong: with N 7, f 2 one is left when a vote lifts the count above N−f. Its round goes on, and there is none after
 abbrev pub case-5-seven : List Row
 case-5-seven =
     (broadcast 0 (yes 4 0 ∷ yes 7 5 ∷ out 1 ∷ []) ⇒ wanting)

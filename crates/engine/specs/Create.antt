@@ -22,7 +22,7 @@ pub record Numbers : Type 0 where
   pub first : ℕ
   pub second : ℕ
 
--- "1: N outside 1..16, 3 × f ≥ N, look-ahead F above 15, own index above N (N means observer), key flag or strategy not 0 or 1, start
+-- "1: N outside 1..16, 3 × f ≥ N, look-ahead F above 15, own index above N (N means observer), key flag […] or strategy […] not 0 or 1, start
 -- epoch above 2^62", and the schedule's rule
 unfoldable pub numbersOk : Numbers → Bool
 numbersOk c =

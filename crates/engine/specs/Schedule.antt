@@ -20,7 +20,7 @@ useOnEpoch Never epoch = false
 useOnEpoch (EveryNthEpoch n) epoch = eqb (epoch % n) 0
 useOnEpoch (TickTock on off) epoch = leb (epoch % (on + off)) on
 
--- "schedule kind above 3, EveryNthEpoch 0 or at least 2^32, TickTock sum 0 or at least 2^32" are turned down; the sum is that of numbers, not of words
+-- "schedule kind […] above 3, EveryNthEpoch 0 or at least 2^32, TickTock sum 0 or at least 2^32" are turned down; the sum is that of numbers, not of words
 unfoldable pub scheduleOk : ℕ → ℕ → ℕ → Bool
 scheduleOk kind a b =
     cond (leb kind 1) true

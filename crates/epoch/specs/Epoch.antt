@@ -33,7 +33,7 @@ receivedProposals n w =
 unfoldable pub firstContributions : ℕ → ℕ → List ℕ → List ℕ
 firstContributions n k w = set (dropFrom n (getD w countAt 0 - k) k w) countAt k
 
--- the entry after a call of threshold decryption: "a plaintext completes it"; after a failure it stays as it was left
+-- the entry after a call of threshold decryption: a plaintext completes it; after a failure it is as the call left it
 unfoldable pub entryAfter : Verdict (Option ℕ) → ThresholdDecrypt → DecryptionState
 entryAfter (going none) td = ongoing td
 entryAfter (going (some plaintext)) td = complete plaintext
@@ -95,7 +95,7 @@ module _ (net : NetworkInfo) where
       (before (fault 3 p 0 ∷ []) (ends (going tt) w q))
       (callEntry (loadDecryption (net .«num_nodes») w p) p w q (inputCiphertext p value)))
 
-  -- "Combining …": a share for an accepted proposer, or while the subset is not done; else fault 2 for its sender
+  -- a share counts while the subset is not done, and after that for an accepted proposer only; else it is fault 2 of its sender
   unfoldable pub handleDecryptionShare : ℕ → ℕ → ℕ → List ℕ → Tape → Run (List ℕ) (Unit {0})
   handleDecryptionShare sender p share w tape =
       cond (isComplete w)

@@ -64,7 +64,7 @@ pub record Asked : Type 0 where
 abbrev pub asked : Answer → Tape → Asked
 asked r p = record { answer = r; tape = p }
 
--- the next record, where it is as wanted. Else nothing is read: "8: the answer wanted next is not next in the chain, or the chain has ended"
+-- the next record, where it is as wanted. Else nothing is read: "8: the answer wanted next is not next in the chain […], or the chain has ended"
 unfoldable pub askFor : (Rec → Bool) → Tape → List Rec → Asked
 askFor want p [] = asked Refused p
 askFor want p (r ∷ rs) = cond (want r) (asked (Got (r .a) (r .b)) (tape (r .next) rs)) (asked Refused p)
