@@ -1,3 +1,4 @@
+pub mod Numbers
 pub mod Network
 pub mod Table
 pub mod Answers
