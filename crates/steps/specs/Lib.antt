@@ -6,4 +6,5 @@ pub mod Steps
 pub mod Runs
 pub mod Parts
 pub mod Taken
+pub mod Batches
 pub mod Opened
