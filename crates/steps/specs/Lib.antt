@@ -1,3 +1,4 @@
+pub mod Numbers
 pub mod Network
 pub mod Table
 pub mod Answers
@@ -5,4 +6,5 @@ pub mod Steps
 pub mod Runs
 pub mod Parts
 pub mod Taken
+pub mod Batches
 pub mod Opened

@@ -3,6 +3,7 @@ use Prim.Native.Nat.{ℕ, _+_}
 use mathlib.Core.List.{List, [], _∷_, _++_}
 use mathlib.Core.Bool.{Bool, true, false, cond, _&&_}
 use lib.Dec.{eqb, leb}
+use Rattle.steps.specs.Numbers.{messagePart, faultPart, outputPart}
 use Rattle.steps.specs.declared.reader.Output.{Output}
 use Rattle.steps.specs.declared.reader.Output.the-variants.{Missing, Value}
 use Rattle.steps.specs.declared.reader.Parts.{Parts}
@@ -11,17 +12,17 @@ use Rattle.steps.specs.Steps.{Entry, message, fault, out}
 use Rattle.steps.specs.Runs.{going, Run, Left}
 
 unfoldable pub isPart : ℕ → Bool
-isPart kind = leb 16 kind && leb kind 18
+isPart kind = leb messagePart kind && leb kind outputPart
 
 -- a message becomes one of the proposer's, of kind 1 (broadcast) or 2 (agreement); a fault becomes fault 8 or 9, with the kind given
 unfoldable pub partEntries : ℕ → ℕ → ℕ → ℕ → ℕ → List Entry
 partEntries content proposer kind a b =
-    cond (eqb kind 16) (message content proposer b ∷ [])
-    (cond (eqb kind 17) (fault (content + 7) a b ∷ []) [])
+    cond (eqb kind messagePart) (message content proposer b ∷ [])
+    (cond (eqb kind faultPart) (fault (content + 7) a b ∷ []) [])
 
 -- the output of one part
 unfoldable pub outputOf : ℕ → ℕ → Output
-outputOf kind b = cond (eqb kind 18) (Value b) Missing
+outputOf kind b = cond (eqb kind outputPart) (Value b) Missing
 
 -- "Of several outputs the last counts, as `pop` does"
 unfoldable pub lastOf : Output → Output → Output

@@ -1,6 +1,7 @@
 -- Runs of every layer. S is the layer's state, A the value with which a run goes on.
 use Prim.Native.Nat.{ℕ}
 use mathlib.Core.List.{List, [], _++_}
+use Rattle.steps.specs.Numbers.{success, answerNotNext}
 use Rattle.steps.specs.declared.reader.Answer.{Answer}
 use Rattle.steps.specs.declared.reader.Answer.the-variants.{Got, Refused}
 use Rattle.steps.specs.Answers.{Tape, Asked}
@@ -14,8 +15,8 @@ pub data Verdict (A : Type 0) : Type 0 where
 
 -- document 01's number
 unfoldable pub numberOf : {A : Type 0} → Verdict A → ℕ
-numberOf (going a) = 0
-numberOf refused = 8
+numberOf (going a) = success
+numberOf refused = answerNotNext
 numberOf (failed n) = n
 
 -- the state afterwards, the verdict, the answers that are left, and the entries that the step got, in order

@@ -5,6 +5,9 @@ ghost use Rattle.steps.specs.Answers.{chain, tapeAt, asked, headOf, ask,
 ghost use Rattle.steps.specs.Steps.{out, putAll};
 ghost use Rattle.steps.specs.Runs.{leaves};
 ghost use Rattle.steps.specs.Parts.{isPart, partEntries, outputOf, lastOf, lastOutput, left, readParts};
+use crate::numbers::FAULT_PART;
+use crate::numbers::MESSAGE_PART;
+use crate::numbers::OUTPUT_PART;
 use crate::step::Step;
 
 // What stands at a place of the answer table.
@@ -110,7 +113,7 @@ pub fn ask_about(answers: &[u64], place: &mut usize, kind: u64, who: u64) -> Ans
 fn is_part(kind: u64) -> bool
     ensures { λ r. ⌜ r ≡ isPart kind ⌝ }
 {
-    (16 <= kind) & (kind <= 18)
+    (MESSAGE_PART <= kind) & (kind <= OUTPUT_PART)
 }
 
 // The step with a part's message or fault. `content` is 1 for a broadcast's parts, 2 for an agreement's.
@@ -126,10 +129,10 @@ fn part_entry(
     requires { ⌜ content ≤ 2 ⌝ }
     ensures { λ r. ⌜ out r (now (words .exit)) ≡ putAll (out step (now (words .entry))) (partEntries content proposer kind a b) ⌝ }
 {
-    if kind == 16 {
+    if kind == MESSAGE_PART {
         return step.message(words, content, proposer, b);
     }
-    if kind == 17 {
+    if kind == FAULT_PART {
         return step.fault(words, content + 7, a, b);
     }
     step
@@ -139,7 +142,7 @@ fn part_entry(
 fn output_of(kind: u64, b: u64) -> Output
     ensures { λ r. ⌜ r ≡ outputOf kind b ⌝ }
 {
-    if kind == 18 {
+    if kind == OUTPUT_PART {
         return Output::Value(b);
     }
     Output::Missing

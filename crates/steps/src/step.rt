@@ -6,6 +6,7 @@ ghost use mathlib.Core.Path.{_≡_};
 ghost use Prim.Native.Nat.{_≤_};
 ghost use lib.ListN.{length};
 ghost use Rattle.steps.specs.Steps.{out, chained, putEntry, putAt, advance, nextOf, message, fault, output, counting, starting, records, firstOf, putHeader, Counted};
+use crate::numbers::COUNT_LIMIT;
 
 // The records of one list: the index of the one that is written next, and the index past the last.
 pub struct Chain {
@@ -18,9 +19,6 @@ pub struct Step {
     pub faults: Chain,
     pub outputs: Chain,
 }
-
-// Counting stops here, far above what a call can write.
-const LIMIT: usize = 4294967296;
 
 // The next of the record before record `i`: none at the end of its chain.
 fn next_of(i: usize, end: usize) -> u64
@@ -47,7 +45,7 @@ impl Chain {
     {
         let at = self.at;
         let end = self.end;
-        if LIMIT <= at {
+        if COUNT_LIMIT <= at {
             return self;
         }
         if words.len() / 4 <= at {
