@@ -21,7 +21,7 @@ unfolding EpochOpened.opened
     Create.numbersOk Create.created Create.createReply Create.createState
     History.turnOf History.stateAfter History.turns History.noneFails History.entriesIn History.batchesIn History.fivesIn
     History.eventsOf History.currentAfter History.history History.taken History.decrypted History.plaintext
-    History.countOpen History.wantedIn History.dealt History.handedOf History.unreadableIn History.proposersIn
+    History.namesFrom History.countOpen History.wantedIn History.dealt History.handedOf History.namesOf History.thirteensOf History.unreadableIn History.proposersIn
     History.unreadableOf History.readingOf History.valueOf History.readingsAt History.readingsIn History.readingsOf13
     History.readingsOfBatches History.readingsOfCalls
 opened = tt
