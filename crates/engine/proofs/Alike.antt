@@ -13,9 +13,9 @@ use Rattle.steps.specs.Answers.{Rec}
 use Rattle.steps.specs.Taken.{orElse, isTrue, concernedAfter, concerns, firstDecrypted}
 use Rattle.steps.proofs.Laws.{and-true}
 use Rattle.steps.specs.Batches.{BatchEntry, Batch}
-use Rattle.engine.specs.History.{Event, plaintext, decisionTaken, valueTaken, decrypted, Handed, handed, unreadableIn, unreadable, Reading, readingOf, valueOf, readingsAt, readingsIn, readingsOf13, readingsOfBatches, readingsOfCalls, readings}
+use Rattle.engine.specs.History.{Event, plaintext, decisionTaken, valueTaken, decrypted, Handed, handed, namesOf, unreadableIn, unreadable, Reading, readingOf, valueOf, readingsAt, readingsIn, readingsOf13, readingsOfBatches, readingsOfCalls, readings}
 use Rattle.engine.specs.Claim.{Premises}
-use Rattle.engine.proofs.OneBatch.{namesOf, entriesOf}
+use Rattle.engine.proofs.OneBatch.{entriesOf}
 use Rattle.engine.proofs.Handout.{InAll, there, is-true, names-same, of-names}
 
 -- WHAT WAS READ is among the readings

@@ -14,9 +14,9 @@ use Rattle.steps.specs.Answers.{Rec}
 use Rattle.steps.specs.Taken.{isThere, isTrue, onesFrom, thirteensIn}
 use Rattle.subset.proofs.Taken.{Grown}
 use Rattle.steps.specs.Batches.{Batch}
-use Rattle.engine.specs.History.{Event, plaintext, decisionTaken, valueTaken, decrypted, countOpen, Handed, wantedIn, dealt, handedIn, handedOf, unreadableIn, proposersIn, unreadableOf}
-use Rattle.engine.specs.Claim.{DecidedTrue, Exact}
-use Rattle.engine.proofs.OneBatch.{namesFrom, namesOf, entriesOf}
+use Rattle.engine.specs.History.{Event, plaintext, decisionTaken, valueTaken, decrypted, namesFrom, countOpen, Handed, wantedIn, dealt, handedIn, handedOf, namesOf, thirteensOf, unreadableIn, proposersIn, unreadableOf}
+use Rattle.engine.specs.Claim.{DecidedTrue, Rising, Exact}
+use Rattle.engine.proofs.OneBatch.{entriesOf}
 
 -- the batch b of an epoch with the values v, the decisions d and the plaintexts x, and its 13s rs
 pub record Handout (n f : ℕ) (v d x : ℕ → Option ℕ) (b : Batch) (rs : List Rec) : Type 0 where
@@ -156,36 +156,36 @@ module _ (n f : ℕ) (encrypted : ℕ → Bool) (h : List Event) where
   wanted-in b rs k = sym (wanted-are n f _ _ _ b rs k)
 
   deal-ok : (bs : List Batch) (rs : List Rec) (fives : List ℕ) → Dealt InAll bs rs fives
-      → (fives ≡ unreadableOf (dealt n encrypted h bs rs)) × AllHanded InAll (dealt n encrypted h bs rs)
-  unfolding dealt unreadableOf AllHanded
-  deal-ok bs rs fives no-batch = (refl, tt)
+      → (fives ≡ unreadableOf (dealt n encrypted h bs rs)) × ((rs ≡ thirteensOf (dealt n encrypted h bs rs)) × AllHanded InAll (dealt n encrypted h bs rs))
+  unfolding dealt unreadableOf thirteensOf AllHanded
+  deal-ok bs rs fives no-batch = (refl, (refl, tt))
   deal-ok bs rs fives (one-batch b bs′ rs₁ rs₂ rs₃ fs fs′ k e g d) =
       let ih = deal-ok bs′ rs₂ fs d in
       let l = wanted-in b rs₁ k in
       let t : take (wantedIn n encrypted h (b .epoch)) (rs₁ ++ rs₂) ≡ rs₁ = take-at rs₁ rs₂ (wantedIn n encrypted h (b .epoch)) l in
       let u : drop (wantedIn n encrypted h (b .epoch)) (rs₁ ++ rs₂) ≡ rs₂ = drop-at rs₁ rs₂ (wantedIn n encrypted h (b .epoch)) l in
-      rw (e, t, u) (g ∙ ap (λ (z : List ℕ). unreadableIn rs₁ ++ z) (ih .0), (k, ih .1))
+      rw (e, t, u) (g ∙ ap (λ (z : List ℕ). unreadableIn rs₁ ++ z) (ih .0), (ap (λ (z : List Rec). rs₁ ++ z) (ih .1 .0), (k, ih .1 .1)))
 
   pub all-handed : (xs : List Event) → AllDealt InAll xs → AllHanded InAll (handedOf n encrypted h xs)
   unfolding AllDealt handedOf AllHanded
   all-handed [] a = tt
   all-handed (x ∷ xs) a =
-      all-append InAll (handedIn n encrypted h x) (handedOf n encrypted h xs) (deal-ok (x .batches) (thirteensIn (x .answers)) (x .fives) (a .0) .1) (all-handed xs (a .1))
+      all-append InAll (handedIn n encrypted h x) (handedOf n encrypted h xs) (deal-ok (x .batches) (thirteensIn (x .answers)) (x .fives) (a .0) .1 .1) (all-handed xs (a .1))
 
-  pub all-fives : (xs : List Event) → AllDealt InAll xs → (x : Event) → List·Memᴰ x xs → x .fives ≡ unreadableOf (handedIn n encrypted h x)
+  -- a call's faults 5 and 13s are those of its batches
+  abbrev DealtAll : Event → Type 0
+  DealtAll x = (x .fives ≡ unreadableOf (handedIn n encrypted h x)) × (thirteensIn (x .answers) ≡ thirteensOf (handedIn n encrypted h x))
+
+  pub all-dealt : (xs : List Event) → AllDealt InAll xs → (x : Event) → List·Memᴰ x xs → DealtAll x
   unfolding AllDealt
-  all-fives [] a x m = absurd (List·Memᴰ·not-nil m)
-  all-fives (y ∷ xs) a x m = go (all-fives xs (a .1) x) (List·Memᴰ·cases-cons m)
+  all-dealt [] a x m = absurd (List·Memᴰ·not-nil m)
+  all-dealt (y ∷ xs) a x m = go (all-dealt xs (a .1) x) (List·Memᴰ·cases-cons m)
     where
-      go : (List·Memᴰ x xs → x .fives ≡ unreadableOf (handedIn n encrypted h x)) → (x ≡ y) ⊎ List·Memᴰ x xs → x .fives ≡ unreadableOf (handedIn n encrypted h x)
-      go ih (inl e) = rw e (deal-ok (y .batches) (thirteensIn (y .answers)) (y .fives) (a .0) .0)
+      go : (List·Memᴰ x xs → DealtAll x) → (x ≡ y) ⊎ List·Memᴰ x xs → DealtAll x
+      go ih (inl e) = let d = deal-ok (y .batches) (thirteensIn (y .answers)) (y .fives) (a .0) in rw e (d .0, d .1 .0)
       go ih (inr k) = ih k
 
 -- ONE HOST: contributors and unreadable ones are exactly those decided true
-abbrev Rising : ℕ → List ℕ → Type 0
-Rising k [] = Unit {0}
-Rising k (x ∷ xs) = (k ≤ x) × Rising (x + 1) xs
-
 rising-weak : (k j : ℕ) (xs : List ℕ) → k ≤ j → Rising j xs → Rising k xs
 rising-weak k j [] l r = tt
 rising-weak k j (x ∷ xs) l r = (omega (arith, r .0), r .1)
@@ -283,7 +283,19 @@ who-count text (r ∷ rs) = go (eqb (r .a) 0) (who-count text rs)
     go true ih = omega arith
     go false ih = omega arith
 
-true-one : (o : Option ℕ) → isTrue o ≡ true → o ≡ some 1
+-- a part of a rising list rises
+module _ (text : ℕ → ℕ) where
+  who-rise : (k : ℕ) (rs : List Rec) → Rising k (namesOf rs) → Rising k (proposersIn (entriesOf text rs)) × Rising k (unreadableIn rs)
+  unfolding namesOf entriesOf proposersIn unreadableIn
+  who-rise k [] r = (tt, tt)
+  who-rise k (x ∷ rs) r = go (eqb (x .a) 0) (who-rise (x .b + 1) rs (r .1))
+    where
+      go : (t : Bool) → Rising (x .b + 1) (proposersIn (entriesOf text rs)) × Rising (x .b + 1) (unreadableIn rs)
+          → Rising k (proposersIn (cond t [] (record { proposer = x .b; plaintext = text (x .b) } ∷ []) ++ entriesOf text rs)) × Rising k (cond t (x .b ∷ []) [] ++ unreadableIn rs)
+      go true ih = (rising-weak k (x .b + 1) (proposersIn (entriesOf text rs)) (omega (arith, r .0)) (ih .0), (r .0, ih .1))
+      go false ih = ((r .0, ih .0), rising-weak k (x .b + 1) (unreadableIn rs) (omega (arith, r .0)) (ih .1))
+
+pub true-one : (o : Option ℕ) → isTrue o ≡ true → o ≡ some 1
 unfolding isTrue
 true-one none e = absurd (false≢true e)
 true-one (some x) e = ap some (eqb-true x 1 e)
@@ -300,12 +312,20 @@ module _ (n f : ℕ) (encrypted : ℕ → Bool) (h : List Event) (x : Handed) (k
   pub of-names : (p : ℕ) → List·Memᴰ p (namesOf (x .thirteens)) → DecidedTrue n h (x .batch .epoch) p
   of-names p m = let r = names-only (λ q. isTrue (ds q)) n 0 p (rw (k .named) at m) in (omega (arith, r .0), true-one (ds p) (r .1))
 
+  names-rise : Rising 0 (namesOf (x .thirteens))
+  names-rise = rw (k .named) (rising-names (λ q. isTrue (ds q)) n 0)
+
   pub exact : Exact n f h x
   exact = record {
+    named = k .named;
+    enough = k .enough;
     decided = λ p t.
         rw (k .entries) (who-split (k .text) p (x .thirteens) (rw (k .named) (names-has (λ q. isTrue (ds q)) n 0 p (omega arith) (omega (arith, t .0)) (is-true (ds p) (t .1)))));
     contributing = λ p m. of-names p (who-left (k .text) p (x .thirteens) (rw (k .entries) at m));
     notReading = λ p m. of-names p (who-right (k .text) p (x .thirteens) m);
-    apart = λ p m u. who-apart (k .text) p 0 (x .thirteens) (rw (k .named) (rising-names (λ q. isTrue (ds q)) n 0)) (rw (k .entries) at m) u;
-    enough = rw (k .entries, who-count (k .text) (x .thirteens), k .named, names-ones ds n 0) (k .enough);
+    apart = λ p m u. who-apart (k .text) p 0 (x .thirteens) names-rise (rw (k .entries) at m) u;
+    contributorsRise = rw (k .entries) (who-rise (k .text) 0 (x .thirteens) names-rise .0);
+    unreadableRise = who-rise (k .text) 0 (x .thirteens) names-rise .1;
+    together = rw (k .entries, who-count (k .text) (x .thirteens), k .named) (names-ones ds n 0);
+    count = k .count;
   }

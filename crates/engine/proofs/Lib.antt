@@ -19,4 +19,5 @@ pub mod OneRun
 pub mod TwoRuns
 pub mod Agreement
 pub mod Rule
+pub mod Tests
 pub mod Pair

@@ -16,8 +16,8 @@ use Rattle.steps.proofs.Read13.{Gives, gives-map, gives-cond, gives-about, give
 use Rattle.epoch.specs.Words.{hasBit, withBit, countBits, isAccepted, plaintextAt}
 use Rattle.epoch.specs.Batch.{readAt, readFrom, entriesFrom, outputBatch}
 use Rattle.epoch.proofs.Told.{fivesAmong}
+use Rattle.engine.specs.History.{namesFrom, namesOf, unreadableIn}
 use Rattle.steps.specs.Batches.{BatchEntry as Shown}
-use Rattle.engine.specs.History.{unreadableIn}
 
 -- BITS: of a number below 2 ^ p
 module _ (x p : ℕ) (small : x < 2 ^ p) where
@@ -45,15 +45,6 @@ module _ (x p : ℕ) (small : x < 2 ^ p) where
 
   small-next : x < 2 ^ (p + 1)
   small-next = rw (pow-add 2 p 1) (omega arith)
-
--- NAMES: of the next m proposers, from p on, those of a test, and those that records name
-unfoldable pub namesFrom : (ℕ → Bool) → ℕ → ℕ → List ℕ
-namesFrom is zero p = []
-namesFrom is (suc m) p = cond (is p) (p ∷ []) [] ++ namesFrom is m (p + 1)
-
-unfoldable pub namesOf : List Rec → List ℕ
-namesOf [] = []
-namesOf (r ∷ rs) = r .b ∷ namesOf rs
 
 -- the entries that 13s give, where `text` is the plaintext of each proposer
 unfoldable pub entriesOf : (ℕ → ℕ) → List Rec → List Shown

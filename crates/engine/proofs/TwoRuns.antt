@@ -25,7 +25,7 @@ use Rattle.engine.specs.Create.{Numbers, numbersOk, created, createReply
 use Rattle.engine.specs.History.{Event, history, turns, noneFails, handed}
 use Rattle.engine.specs.Claim.{One, Made, historyOf, encryptedOf, Sound, TwoRuns}
 use Rattle.engine.proofs.Created.{length-created, create-passes, created-zeros}
-use Rattle.engine.proofs.Handout.{AllDealt, InAll, all-at, all-handed, all-fives, exact}
+use Rattle.engine.proofs.Handout.{AllDealt, InAll, all-at, all-handed, all-dealt, exact}
 use Rattle.engine.proofs.Alike.{alike}
 use Rattle.engine.proofs.Invariant.{vacant, Sim}
 use Rattle.engine.proofs.OneRun.{run-ok}
@@ -107,7 +107,8 @@ module _ (Holds : NetworkInfo → SubsetHandlingStrategy → Bool → List ℕ �
 
   one : (n f : ℕ) (encrypted : ℕ → Bool) (h : List Event) → AllDealt (InAll n f encrypted h) h → One n f encrypted h
   one n f encrypted h d = record {
-    fives = all-fives n f encrypted h h d;
+    thirteens = λ x m. all-dealt n f encrypted h h d x m .1;
+    fives = λ x m. all-dealt n f encrypted h h d x m .0;
     exact = λ x m. exact n f encrypted h x (all-at (InAll n f encrypted h) (handed n encrypted h) x (all-handed n f encrypted h h d) m);
   }
 

@@ -3,13 +3,14 @@
 use Prim.Native.Nat.{ℕ, _-_, _+_, _≤_, _<_}
 use mathlib.Core.Path.{_≡_}
 use mathlib.Core.Logic.{_⊎_}
-use mathlib.Core.List.{List, _++_, List·Memᴰ}
+use mathlib.Core.List.{List, [], _∷_, _++_, List·Memᴰ}
 use mathlib.Core.Bool.{Bool, true}
 use mathlib.Core.Option.{Option, some}
 use lib.ListN.{length}
+use Rattle.steps.specs.Taken.{thirteensIn}
 use Rattle.engine.specs.Schedule.{scheduleOf, useOnEpoch}
 use Rattle.engine.specs.Create.{Numbers, createReply, createState}
-use Rattle.engine.specs.History.{Call, Turn, turns, noneFails, Event, history, Handed, handed, handedIn, valueTaken, decisionTaken, unreadable, unreadableOf, contributors, Reading, readings}
+use Rattle.engine.specs.History.{Call, Turn, turns, noneFails, Event, history, Handed, handed, handedIn, valueTaken, decisionTaken, decidedTrueIn, onesIn, namesOf, thirteensOf, unreadable, unreadableOf, contributors, Reading, readings}
 
 -- PREMISES
 
@@ -29,16 +30,33 @@ ReadAlike rs =
 abbrev pub DecidedTrue : ℕ → List Event → ℕ → ℕ → Type 0
 DecidedTrue n h e p = (p < n) × (decisionTaken h e p ≡ some 1)
 
--- on one host: contributors and unreadable are disjoint, together exactly the proposers decided true, and at least N − f
+-- each number is k or more and above the one before it, so that none stands twice
+abbrev pub Rising : ℕ → List ℕ → Type 0
+Rising k [] = Unit {0}
+Rising k (x ∷ xs) = (k ≤ x) × Rising (x + 1) xs
+
+-- of a batch, on one host
 pub record Exact (n f : ℕ) (h : List Event) (x : Handed) : Type 0 where
+  -- its 13s name exactly the proposers decided true, by rising index, each once; these are at least N − f
+  pub named : namesOf (x .thirteens) ≡ decidedTrueIn n h (x .batch .epoch)
+  pub enough : n - f ≤ onesIn n h (x .batch .epoch)
+  -- contributors and unreadable are disjoint, and together exactly these
   pub decided : (p : ℕ) → DecidedTrue n h (x .batch .epoch) p → List·Memᴰ p (contributors x) ⊎ List·Memᴰ p (unreadable x)
   pub contributing : (p : ℕ) → List·Memᴰ p (contributors x) → DecidedTrue n h (x .batch .epoch) p
   pub notReading : (p : ℕ) → List·Memᴰ p (unreadable x) → DecidedTrue n h (x .batch .epoch) p
   pub apart : (p : ℕ) → List·Memᴰ p (contributors x) → List·Memᴰ p (unreadable x) → ⊥
-  pub enough : n - f ≤ length (contributors x) + length (unreadable x)
+  -- none is named twice: "by rising proposer"; so they are as many as the proposers decided true
+  pub contributorsRise : Rising 0 (contributors x)
+  pub unreadableRise : Rising 0 (unreadable x)
+  pub together : length (contributors x) + length (unreadable x) ≡ onesIn n h (x .batch .epoch)
+  -- "1 batch (a epoch, b entries)"
+  pub count : x .batch .count ≡ length (x .batch .entries)
 
--- of one run: "that a step's faults 5, which name no epoch, are exactly these, batch by batch, is part of demand 3"
+-- of one run
 pub record One (n f : ℕ) (encrypted : ℕ → Bool) (h : List Event) : Type 0 where
+  -- "The 13s of a call go to its step's batches in order": these are all its 13s
+  pub thirteens : (x : Event) → List·Memᴰ x h → thirteensIn (x .answers) ≡ thirteensOf (handedIn n encrypted h x)
+  -- "that a step's faults 5, which name no epoch, are exactly these, batch by batch, is part of demand 3"
   pub fives : (x : Event) → List·Memᴰ x h → x .fives ≡ unreadableOf (handedIn n encrypted h x)
   pub exact : (x : Handed) → List·Memᴰ x (handed n encrypted h) → Exact n f h x
 

@@ -8,7 +8,7 @@ use lib.Dec.{eqb, leb, ltb}
 use Rattle.steps.specs.Table.{within}
 use Rattle.steps.specs.Answers.{Rec, tapeOf}
 use Rattle.steps.specs.Batches.{BatchEntry, Batch, batchesOf, fivesOf}
-use Rattle.steps.specs.Taken.{orElse, isThere, isTrue, firstTaken, ofValue, ofDecision, concernedAfter, firstDecrypted, thirteensIn}
+use Rattle.steps.specs.Taken.{orElse, isThere, isTrue, firstTaken, ofValue, ofDecision, onesFrom, concernedAfter, firstDecrypted, thirteensIn}
 use Rattle.engine.specs.Calls.{proposeCall, messageCall, skipReply, skipState}
 
 -- A CALL with "any answer, step and scratch words"
@@ -105,6 +105,18 @@ decrypted (x ∷ xs) e p = orElse (cond (eqb (x .epoch) e) (firstDecrypted p (x 
 unfoldable pub plaintext : (ℕ → Bool) → List Event → ℕ → ℕ → Option ℕ
 plaintext encrypted h e p = cond (encrypted e) (decrypted h e p) (valueTaken h e p)
 
+-- DECIDED TRUE. Of the next m proposers, from p on, those that a test tells, by rising index
+unfoldable pub namesFrom : (ℕ → Bool) → ℕ → ℕ → List ℕ
+namesFrom is zero p = []
+namesFrom is (suc m) p = cond (is p) (p ∷ []) [] ++ namesFrom is m (p + 1)
+
+-- the proposers decided true in an epoch, and how many they are
+abbrev pub decidedTrueIn : ℕ → List Event → ℕ → List ℕ
+decidedTrueIn n h e = namesFrom (λ p. isTrue (decisionTaken h e p)) n 0
+
+abbrev pub onesIn : ℕ → List Event → ℕ → ℕ
+onesIn n h e = onesFrom (decisionTaken h e) n 0
+
 -- THE 13s
 -- how many of the next m proposers, from p on, are "in its epoch […] decided true and [have] a plaintext"
 unfoldable pub countOpen : (ℕ → Option ℕ) → (ℕ → Option ℕ) → ℕ → ℕ → ℕ
@@ -137,6 +149,16 @@ module _ (n : ℕ) (encrypted : ℕ → Bool) (h : List Event) where
   -- every batch that the run handed out
   abbrev pub handed : List Handed
   handed = handedOf h
+
+-- the proposers that 13s name
+unfoldable pub namesOf : List Rec → List ℕ
+namesOf [] = []
+namesOf (r ∷ rs) = r .b ∷ namesOf rs
+
+-- the 13s that went to these batches
+unfoldable pub thirteensOf : List Handed → List Rec
+thirteensOf [] = []
+thirteensOf (x ∷ xs) = x .thirteens ++ thirteensOf xs
 
 -- "Unreadable are those whose 13 has a = 0"
 unfoldable pub unreadableIn : List Rec → List ℕ
