@@ -25,7 +25,7 @@ use Rattle.epoch.specs.declared.MessageContent.{MessageContent}
 use Rattle.epoch.specs.declared.MessageContent.the-variants.{Broadcast, Agreement, DecryptionShare}
 use Rattle.epoch.specs.Words.{isVacant, isComplete, isAccepted, DecryptionState, missing, ongoing, complete}
 use Rattle.epoch.specs.Epoch.{handlesNow, processDecryption, callEntry, inputCiphertext, sendDecryptionShare, handleDecryptionShare, finishAt, finishFrom, handleContribution, handleFrom, handleContributions, processSubset, handedUp, callSubset, propose as proposeEpoch, handleMessageContent}
-use Rattle.epoch.specs.Batch.{isReady, readAt, readFrom, outputBatch}
+use Rattle.epoch.specs.Batch.{isReady, isRead, readAt, readFrom, outputBatchIn, outputBatch}
 use Rattle.engine.specs.State.{nodes, ahead, currentEpoch, netOf, epochWords}
 use Rattle.engine.specs.HoneyBadger.{updateEpoch, epochStateMut, inEpoch, tryOutputBatches, propose, handleMessage}
 
@@ -284,21 +284,21 @@ module _ (ok : ℕ → Bool) (ok-24 : ok 24 ≡ true) (ok-25 : ok 25 ≡ true) (
 
 -- A BATCH does not fail
 module _ (ok : ℕ → Bool) where
-  only-read-at : (p readable : ℕ) (w : List ℕ) (t : Tape) → Only ok (readAt p readable w t)
+  only-read-at : (size p readable : ℕ) (w : List ℕ) (t : Tape) → Only ok (readAt size p readable w t)
   unfolding readAt
-  only-read-at p readable w t =
-      only-cond (isAccepted w p)
+  only-read-at size p readable w t =
+      only-cond (isRead size w p)
       (only-heard _ _ (λ a b q. only-cond (eqb a 0) (record { fails = tt }) (record { fails = tt })))
       (record { fails = tt })
 
-  only-read : (m p readable : ℕ) (w : List ℕ) (t : Tape) → Only ok (readFrom m p readable w t)
+  only-read : (size m p readable : ℕ) (w : List ℕ) (t : Tape) → Only ok (readFrom size m p readable w t)
   unfolding readFrom
-  only-read zero p readable w t = record { fails = tt }
-  only-read (suc m) p readable w t = only-onward _ (only-read-at p readable w t) (λ readable w q. only-read m (p + 1) readable w q)
+  only-read size zero p readable w t = record { fails = tt }
+  only-read size (suc m) p readable w t = only-onward _ (only-read-at size p readable w t) (λ readable w q. only-read size m (p + 1) readable w q)
 
   pub only-batch : (n epoch : ℕ) (w : List ℕ) (t : Tape) → Only ok (outputBatch n epoch w t)
-  unfolding outputBatch
-  only-batch n epoch w t = only-onward _ (only-read n 0 0 w t) (λ readable w q. record { fails = tt })
+  unfolding outputBatchIn
+  only-batch n epoch w t = only-onward _ (only-read _ n 0 0 w t) (λ readable w q. record { fails = tt })
 
 -- THE ENGINE fails as its epochs do, with 20 where one is built
 module _ (ok : ℕ → Bool) (ok-20 : ok 20 ≡ true) (ok-24 : ok 24 ≡ true) (ok-25 : ok 25 ≡ true) where
