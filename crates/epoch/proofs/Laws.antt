@@ -38,6 +38,7 @@ use Rattle.epoch.specs.Words.{isComplete, isAccepted, hasBit, missing, o
 use Rattle.epoch.specs.Epoch.{newEpoch, callEntry, handleDecryptionShare, processSubset, handedUp, callSubset, propose, handleMessageContent}
 use Rattle.epoch.specs.Batch.{decryptedFrom, isReadyIn, isRead, isReady}
 use Rattle.epoch.proofs.Told.{nothing, shareOf, Told, Ready, EpochLaws}
+use Rattle.epoch.proofs.Shares.{by-share}
 use Rattle.epoch.proofs.Orderly.{Orderly}
 use Rattle.epoch.proofs.Passes.{subsetKinds, decryptionKinds, subset-eight, subset-twelve, subset-thirteen, decryption-value, decryption-decision, decryption-thirteen, outside-status, outside-accepted, outside-record, Frame, propose-subset-runs, handle-subset-runs, quiet-proposed, quiet-handled}
 use Rattle.epoch.proofs.Texts.{after-ask, reads-past, after-with}
@@ -225,13 +226,13 @@ module _ (net : NetworkInfo) (strategy : SubsetHandlingStrategy) (encrypted : Bo
 
   share-ok : (sender p share : ℕ) → p < net .«num_nodes» → (u : Tape) → Good (net .«num_nodes») (u .rest)
       → After (handleDecryptionShare net sender p share w u) (λ _ w′ z. Told Holds net strategy encrypted v d t (some p) (u .rest) w′ (z .rest))
-  unfolding handleDecryptionShare
   share-ok sender p share l u g =
-      after-cond (isComplete w) _ _ _ (after-cond (isAccepted w p) _ _ _ deals (told-still net strategy encrypted w v d t (some p) (u .rest) h g)) deals
+      by-share net p w u (λ r. After r (λ _ w′ z. Told Holds net strategy encrypted v d t (some p) (u .rest) w′ (z .rest))) sender share
+      (told-still net strategy encrypted w v d t (some p) (u .rest) h g) deals
     where
-      deals : After (callEntry net (loadDecryption (net .«num_nodes») w p) p w u (handleShare net p sender share)) (λ _ w′ z. Told Holds net strategy encrypted v d t (some p) (u .rest) w′ (z .rest))
+      deals : After (callEntry net p (handleShare net p sender share) w u) (λ _ w′ z. Told Holds net strategy encrypted v d t (some p) (u .rest) w′ (z .rest))
       deals =
-          after-map (callEntry net (loadDecryption (net .«num_nodes») w p) p w u (handleShare net p sender share)) _ _
+          after-map (callEntry net p (handleShare net p sender share) w u) _ _
           (share-entry net p w u l (h .size) encrypted sender share (isAccepted w p) (v p) (t p) (h .texts p l))
           (λ _ w′ z a. told-dealt net strategy encrypted p w v d t (u .rest) w′ (z .rest) h g a)
 

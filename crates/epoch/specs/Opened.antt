@@ -9,7 +9,7 @@ unfoldable pub opened : Unit {0}
 unfolding DecryptionOpened.opened SubsetOpened.opened
     Words.hasBit Words.withBit Words.countBits Words.isAccepted Words.accept Words.asks Words.isSettled
     Words.isOpen Words.sharesFrom Words.loadInstance
-    Words.loadDecryption Words.setShares Words.storeEntry Words.storeDecryption Words.allFrom Words.recordInRange
+    Words.loadEntry Words.loadDecryption Words.setShares Words.storeEntry Words.storeDecryption Words.allFrom Words.recordInRange
     Words.recordsInRange Words.epochInRange
     Epoch.newEpoch Epoch.receivedProposals Epoch.firstContributions Epoch.entryAfter Epoch.unexpectedFrom
     Epoch.unexpectedShares Epoch.handlesNow Epoch.subsetComplete Epoch.proposalDropped Epoch.processDecryption

@@ -108,6 +108,10 @@ loadInstance n w p =
       terminated = not (eqb (getD w (terminatedAt n p) 0) 0);
     }
 
+-- the instance that a share or a ciphertext comes to: a new one where there is no entry
+unfoldable pub loadEntry : ℕ → List ℕ → ℕ → ThresholdDecrypt
+loadEntry n w p = cond (eqb (getD w (decryptionAt n p) 0) entryNone) new (loadInstance n w p)
+
 unfoldable pub loadDecryption : ℕ → List ℕ → ℕ → DecryptionState
 loadDecryption n w p =
     cond (eqb (getD w (decryptionAt n p) 0) 0) missing
