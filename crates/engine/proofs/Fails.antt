@@ -23,9 +23,10 @@ use Rattle.subset.specs.Subset.{countAccepted, completeFrom, atProposal, broadc
 use Rattle.epoch.specs.declared.SubsetHandlingStrategy.{SubsetHandlingStrategy}
 use Rattle.epoch.specs.declared.MessageContent.{MessageContent}
 use Rattle.epoch.specs.declared.MessageContent.the-variants.{Broadcast, Agreement, DecryptionShare}
-use Rattle.epoch.specs.Words.{isVacant, isComplete, isAccepted, DecryptionState, missing, ongoing, complete}
+use Rattle.epoch.specs.Words.{isVacant, isComplete, isAccepted}
 use Rattle.epoch.specs.Epoch.{handlesNow, processDecryption, callEntry, inputCiphertext, sendDecryptionShare, handleDecryptionShare, finishAt, finishFrom, handleContribution, handleFrom, handleContributions, processSubset, handedUp, callSubset, propose as proposeEpoch, handleMessageContent}
-use Rattle.epoch.specs.Batch.{isReady, readAt, readFrom, outputBatch}
+use Rattle.epoch.specs.Batch.{isReady, isRead, readAt, readFrom, outputBatchIn, outputBatch}
+use Rattle.epoch.proofs.Shares.{by-entry, by-share}
 use Rattle.engine.specs.State.{nodes, ahead, currentEpoch, netOf, epochWords}
 use Rattle.engine.specs.HoneyBadger.{updateEpoch, epochStateMut, inEpoch, tryOutputBatches, propose, handleMessage}
 
@@ -205,12 +206,9 @@ module _ (ok : ℕ → Bool) (ok-24 : ok 24 ≡ true) (ok-25 : ok 25 ≡ true) (
   unfolding processDecryption
   only-process p w r h = only-onward _ (record { fails = h .fails }) (λ _ w q. record { fails = tt })
 
-  only-entry : (d : DecryptionState) (p : ℕ) (w : List ℕ) (t : Tape) (call : ThresholdDecrypt → Tape → Run ThresholdDecrypt (Option ℕ))
-      → ((td : ThresholdDecrypt) (q : Tape) → Only ok (call td q)) → Only ok (callEntry net d p w t call)
-  unfolding callEntry
-  only-entry missing p w t call h = only-process p w _ (h new t)
-  only-entry (ongoing td) p w t call h = only-process p w _ (h td t)
-  only-entry (complete plaintext) p w t call h = record { fails = tt }
+  only-entry : (p : ℕ) (call : ThresholdDecrypt → Tape → Run ThresholdDecrypt (Option ℕ)) → ((td : ThresholdDecrypt) (q : Tape) → Only ok (call td q))
+      → (w : List ℕ) (t : Tape) → Only ok (callEntry net p call w t)
+  only-entry p call h w t = by-entry net p w t (Only ok) call (only-process p w _ (h _ t)) (record { fails = tt })
 
   only-input : (p value : ℕ) (td : ThresholdDecrypt) (t : Tape) → Only ok (inputCiphertext net p value td t)
   unfolding inputCiphertext
@@ -221,14 +219,11 @@ module _ (ok : ℕ → Bool) (ok-24 : ok 24 ≡ true) (ok-25 : ok 25 ≡ true) (
   only-send : (p value : ℕ) (w : List ℕ) (t : Tape) → Only ok (sendDecryptionShare net p value w t)
   unfolding sendDecryptionShare
   only-send p value w t =
-      only-heard _ _ (λ a b q. only-cond (eqb a 0) (record { fails = tt }) (only-entry _ p w q _ (only-input p value)))
+      only-heard _ _ (λ a b q. only-cond (eqb a 0) (record { fails = tt }) (only-entry p _ (only-input p value) w q))
 
   only-handle-share : (sender p share : ℕ) (w : List ℕ) (t : Tape) → Only ok (handleDecryptionShare net sender p share w t)
-  unfolding handleDecryptionShare
   only-handle-share sender p share w t =
-      only-cond (isComplete w)
-      (only-cond (isAccepted w p) (only-entry _ p w t _ (only-share ok ok-24 net p sender share)) (record { fails = tt }))
-      (only-entry _ p w t _ (only-share ok ok-24 net p sender share))
+      by-share net p w t (Only ok) sender share (record { fails = tt }) (only-entry p _ (only-share ok ok-24 net p sender share) w t)
 
   only-finish-at : (p : ℕ) (w : List ℕ) (t : Tape) → Only ok (finishAt net p w t)
   unfolding finishAt
@@ -284,21 +279,21 @@ module _ (ok : ℕ → Bool) (ok-24 : ok 24 ≡ true) (ok-25 : ok 25 ≡ true) (
 
 -- A BATCH does not fail
 module _ (ok : ℕ → Bool) where
-  only-read-at : (p readable : ℕ) (w : List ℕ) (t : Tape) → Only ok (readAt p readable w t)
+  only-read-at : (size p readable : ℕ) (w : List ℕ) (t : Tape) → Only ok (readAt size p readable w t)
   unfolding readAt
-  only-read-at p readable w t =
-      only-cond (isAccepted w p)
+  only-read-at size p readable w t =
+      only-cond (isRead size w p)
       (only-heard _ _ (λ a b q. only-cond (eqb a 0) (record { fails = tt }) (record { fails = tt })))
       (record { fails = tt })
 
-  only-read : (m p readable : ℕ) (w : List ℕ) (t : Tape) → Only ok (readFrom m p readable w t)
+  only-read : (size m p readable : ℕ) (w : List ℕ) (t : Tape) → Only ok (readFrom size m p readable w t)
   unfolding readFrom
-  only-read zero p readable w t = record { fails = tt }
-  only-read (suc m) p readable w t = only-onward _ (only-read-at p readable w t) (λ readable w q. only-read m (p + 1) readable w q)
+  only-read size zero p readable w t = record { fails = tt }
+  only-read size (suc m) p readable w t = only-onward _ (only-read-at size p readable w t) (λ readable w q. only-read size m (p + 1) readable w q)
 
   pub only-batch : (n epoch : ℕ) (w : List ℕ) (t : Tape) → Only ok (outputBatch n epoch w t)
-  unfolding outputBatch
-  only-batch n epoch w t = only-onward _ (only-read n 0 0 w t) (λ readable w q. record { fails = tt })
+  unfolding outputBatchIn
+  only-batch n epoch w t = only-onward _ (only-read _ n 0 0 w t) (λ readable w q. record { fails = tt })
 
 -- THE ENGINE fails as its epochs do, with 20 where one is built
 module _ (ok : ℕ → Bool) (ok-20 : ok 20 ≡ true) (ok-24 : ok 24 ≡ true) (ok-25 : ok 25 ≡ true) where

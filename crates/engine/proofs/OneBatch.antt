@@ -13,8 +13,9 @@ use Rattle.steps.specs.Steps.{Entry, fault, output, Item, item, faults, outputs
 use Rattle.steps.specs.Runs.{going, ends, before}
 use Rattle.steps.specs.Taken.{thirteensIn}
 use Rattle.steps.proofs.Read13.{Gives, gives-map, gives-cond, gives-about, gives-onward, Neither, neither, neither-then, neither-13, thirteens-13, outputs-append, faults-append}
-use Rattle.epoch.specs.Words.{hasBit, withBit, countBits, isAccepted, plaintextAt}
-use Rattle.epoch.specs.Batch.{readAt, readFrom, entriesFrom, outputBatch}
+use Rattle.subset.specs.Words.{recordLength}
+use Rattle.epoch.specs.Words.{hasBit, withBit, countBits, plaintextAt}
+use Rattle.epoch.specs.Batch.{isRead, readAt, readFrom, entriesFrom, outputBatchIn, outputBatch}
 use Rattle.epoch.proofs.Told.{fivesAmong}
 use Rattle.engine.specs.History.{Entry as Shown, unreadableIn}
 
@@ -77,20 +78,20 @@ record ReadOut (n m p readable : ℕ) (w : List ℕ) (ws : List Rec) (after : �
   rs : List Rec
   same : v ≡ w
   told : thirteensIn ws ≡ rs ++ thirteensIn r
-  named : namesOf rs ≡ namesFrom (isAccepted w) m p
+  named : namesOf rs ≡ namesFrom (isRead (recordLength n) w) m p
   nothing : Neither ws r
   silent : outputs log ≡ []
   fives : fivesAmong (faults log) ≡ unreadableIn rs
   kept : (q : ℕ) → q < p → hasBit after q ≡ hasBit readable q
-  entries : outputs (entriesFrom n m p after w) ≡ itemsOf (entriesOf (textIn n w) rs)
+  entries : outputs (entriesFrom (recordLength n) m p after w) ≡ itemsOf (entriesOf (textIn n w) rs)
   count : countBits m p after ≡ length (entriesOf (textIn n w) rs)
 
 -- one proposer: none or one 13
-record ReadOne (p readable : ℕ) (w : List ℕ) (ws : List Rec) (after : ℕ) (v : List ℕ) (r : List Rec) (log : List Entry) : Type 0 where
+record ReadOne (size p readable : ℕ) (w : List ℕ) (ws : List Rec) (after : ℕ) (v : List ℕ) (r : List Rec) (log : List Entry) : Type 0 where
   rs : List Rec
   same : v ≡ w
   told : thirteensIn ws ≡ rs ++ thirteensIn r
-  named : namesOf rs ≡ cond (isAccepted w p) (p ∷ []) []
+  named : namesOf rs ≡ cond (isRead size w p) (p ∷ []) []
   nothing : Neither ws r
   silent : outputs log ≡ []
   fives : fivesAmong (faults log) ≡ unreadableIn rs
@@ -100,9 +101,9 @@ record ReadOne (p readable : ℕ) (w : List ℕ) (ws : List Rec) (after : ℕ) (
       → outputs (cond (hasBit u p) (output 2 p (textIn n w p) ∷ []) []) ≡ itemsOf (entriesOf (textIn n w) rs)
   count : (n : ℕ) (u : ℕ) → hasBit u p ≡ hasBit after p → cond (hasBit u p) 1 0 ≡ length (entriesOf (textIn n w) rs)
 
-module _ (p readable : ℕ) (small : readable < 2 ^ p) (w : List ℕ) where
-  -- not accepted
-  none-read : (ws : List Rec) → isAccepted w p ≡ false → ReadOne p readable w ws readable w ws []
+module _ (size p readable : ℕ) (small : readable < 2 ^ p) (w : List ℕ) where
+  -- not one of the batch
+  none-read : (ws : List Rec) → isRead size w p ≡ false → ReadOne size p readable w ws readable w ws []
   unfolding namesOf fivesAmong faults outputs unreadableIn entriesOf itemsOf
   none-read ws e = record {
     rs = [];
@@ -119,7 +120,7 @@ module _ (p readable : ℕ) (small : readable < 2 ^ p) (w : List ℕ) where
   }
 
   -- a 13 that says no
-  unread : (r : Rec) (rs : List Rec) → isAccepted w p ≡ true → r .kind ≡ 13 → r .b ≡ p → eqb (r .a) 0 ≡ true → ReadOne p readable w (r ∷ rs) readable w rs (fault 5 p 0 ∷ [])
+  unread : (r : Rec) (rs : List Rec) → isRead size w p ≡ true → r .kind ≡ 13 → r .b ≡ p → eqb (r .a) 0 ≡ true → ReadOne size p readable w (r ∷ rs) readable w rs (fault 5 p 0 ∷ [])
   unfolding namesOf fivesAmong faults outputs unreadableIn entriesOf itemsOf
   unread r rs e ek eb ea = record {
     rs = r ∷ [];
@@ -136,7 +137,7 @@ module _ (p readable : ℕ) (small : readable < 2 ^ p) (w : List ℕ) where
   }
 
   -- one that says yes
-  reads : (r : Rec) (rs : List Rec) → isAccepted w p ≡ true → r .kind ≡ 13 → r .b ≡ p → eqb (r .a) 0 ≡ false → ReadOne p readable w (r ∷ rs) (withBit readable p) w rs []
+  reads : (r : Rec) (rs : List Rec) → isRead size w p ≡ true → r .kind ≡ 13 → r .b ≡ p → eqb (r .a) 0 ≡ false → ReadOne size p readable w (r ∷ rs) (withBit readable p) w rs []
   unfolding namesOf fivesAmong faults outputs unreadableIn entriesOf itemsOf
   reads r rs e ek eb ea = record {
     rs = r ∷ [];
@@ -152,16 +153,16 @@ module _ (p readable : ℕ) (small : readable < 2 ^ p) (w : List ℕ) where
     count = λ n u h. rw (h, with-at readable p small, ea);
   }
 
-  read-one : (t : Tape) → Gives (readAt p readable w t) (λ a v q l. ReadOne p readable w (t .rest) a v (q .rest) l)
+  read-one : (t : Tape) → Gives (readAt size p readable w t) (λ a v q l. ReadOne size p readable w (t .rest) a v (q .rest) l)
   unfolding readAt
   read-one t =
-      gives-cond (isAccepted w p) _ _ _
+      gives-cond (isRead size w p) _ _ _
       (λ e. gives-about t 13 p w _ _ (λ r rs er ek eb. rw er (by r rs e ek eb (eqb (r .a) 0) refl)))
       (λ e. none-read (t .rest) e)
     where
-      by : (r : Rec) (rs : List Rec) → isAccepted w p ≡ true → r .kind ≡ 13 → r .b ≡ p → (x : Bool) → eqb (r .a) 0 ≡ x
+      by : (r : Rec) (rs : List Rec) → isRead size w p ≡ true → r .kind ≡ 13 → r .b ≡ p → (x : Bool) → eqb (r .a) 0 ≡ x
           → Gives (cond x (before (fault 5 p 0 ∷ []) (ends (going readable) w (tape (r .next) rs))) (ends (going (withBit readable p)) w (tape (r .next) rs)))
-          (λ a v q l. ReadOne p readable w (r ∷ rs) a v (q .rest) l)
+          (λ a v q l. ReadOne size p readable w (r ∷ rs) a v (q .rest) l)
       by r rs e ek eb true ea = unread r rs e ek eb ea
       by r rs e ek eb false ea = reads r rs e ek eb ea
 
@@ -187,7 +188,7 @@ items-append (x ∷ l) m = rw (items-append l m)
 
 module _ (n : ℕ) where
   read-then : (m p readable : ℕ) (w : List ℕ) (ws : List Rec) (a : ℕ) (r : List Rec) (l : List Entry) (b : ℕ) (v : List ℕ) (z : List Rec) (k : List Entry)
-      → ReadOne p readable w ws a w r l → ReadOut n m (p + 1) a w r b v z k → ReadOut n (suc m) p readable w ws b v z (l ++ k)
+      → ReadOne (recordLength n) p readable w ws a w r l → ReadOut n m (p + 1) a w r b v z k → ReadOut n (suc m) p readable w ws b v z (l ++ k)
   unfolding namesFrom entriesFrom countBits
   read-then m p readable w ws a r l b v z k x y = record {
     rs = x .rs ++ y .rs;
@@ -199,14 +200,14 @@ module _ (n : ℕ) where
     fives = ap fivesAmong (faults-append l k) ∙ fives-append (faults l) (faults k) ∙ rw (x .fives, y .fives) (sym (unreadable-append (x .rs) (y .rs)));
     kept = λ q h. y .kept q (omega arith) ∙ x .kept q h;
     entries =
-        outputs-append (cond (hasBit b p) (output 2 p (textIn n w p) ∷ []) []) (entriesFrom n m (p + 1) b w)
+        outputs-append (cond (hasBit b p) (output 2 p (textIn n w p) ∷ []) []) (entriesFrom (recordLength n) m (p + 1) b w)
         ∙ rw (x .entries n b (y .kept p (omega arith)), y .entries) (sym (ap itemsOf (entries-append (textIn n w) (x .rs) (y .rs)) ∙ items-append (entriesOf (textIn n w) (x .rs)) (entriesOf (textIn n w) (y .rs))));
     count =
         rw (x .count n b (y .kept p (omega arith)), y .count)
         (sym (ap length (entries-append (textIn n w) (x .rs) (y .rs)) ∙ length-append (entriesOf (textIn n w) (x .rs)) (entriesOf (textIn n w) (y .rs))));
   }
 
-  read-out : (m p readable : ℕ) (w : List ℕ) (t : Tape) → readable < 2 ^ p → Gives (readFrom m p readable w t) (λ a v q l. ReadOut n m p readable w (t .rest) a v (q .rest) l)
+  read-out : (m p readable : ℕ) (w : List ℕ) (t : Tape) → readable < 2 ^ p → Gives (readFrom (recordLength n) m p readable w t) (λ a v q l. ReadOut n m p readable w (t .rest) a v (q .rest) l)
   unfolding readFrom namesOf namesFrom fivesAmong faults outputs unreadableIn entriesOf itemsOf entriesFrom countBits
   read-out zero p readable w t small = record {
     rs = [];
@@ -221,9 +222,9 @@ module _ (n : ℕ) where
     count = refl;
   }
   read-out (suc m) p readable w t small =
-      gives-onward (readAt p readable w t) _ _
-      (gives-map (readAt p readable w t) _ _ (read-one p readable small w t) (λ a v q l x.
-      rw (x .same) (gives-map (readFrom m (p + 1) a w q) _ _ (read-out m (p + 1) a w q (x .small)) (λ b u z k y.
+      gives-onward (readAt (recordLength n) p readable w t) _ _
+      (gives-map (readAt (recordLength n) p readable w t) _ _ (read-one (recordLength n) p readable small w t) (λ a v q l x.
+      rw (x .same) (gives-map (readFrom (recordLength n) m (p + 1) a w q) _ _ (read-out m (p + 1) a w q (x .small)) (λ b u z k y.
       read-then m p readable w (t .rest) a (q .rest) l b u (z .rest) k (rw (x .same) at x) y))))
 
 -- THE BATCH. Its 13s, its faults 5 and its outputs
@@ -231,16 +232,16 @@ pub record Put (n epoch : ℕ) (w : List ℕ) (ws : List Rec) (v : List ℕ) (r 
   pub rs : List Rec
   pub same : v ≡ w
   pub told : thirteensIn ws ≡ rs ++ thirteensIn r
-  pub named : namesOf rs ≡ namesFrom (isAccepted w) n 0
+  pub named : namesOf rs ≡ namesFrom (isRead (recordLength n) w) n 0
   pub nothing : Neither ws r
   pub fives : fivesAmong (faults log) ≡ unreadableIn rs
   pub shown : outputs log ≡ item 1 epoch (length (entriesOf (textIn n w) rs)) ∷ itemsOf (entriesOf (textIn n w) rs)
 
-entries-faults : (n m p readable : ℕ) (w : List ℕ) → faults (entriesFrom n m p readable w) ≡ []
+entries-faults : (n m p readable : ℕ) (w : List ℕ) → faults (entriesFrom (recordLength n) m p readable w) ≡ []
 unfolding faults entriesFrom
 entries-faults n zero p readable w = refl
 entries-faults n (suc m) p readable w =
-    faults-append (cond (hasBit readable p) (output 2 p (textIn n w p) ∷ []) []) (entriesFrom n m (p + 1) readable w)
+    faults-append (cond (hasBit readable p) (output 2 p (textIn n w p) ∷ []) []) (entriesFrom (recordLength n) m (p + 1) readable w)
     ∙ rw (entries-faults n m (p + 1) readable w) (go (hasBit readable p))
   where
     go : (x : Bool) → faults (cond x (output 2 p (textIn n w p) ∷ []) []) ++ [] ≡ []
@@ -248,10 +249,10 @@ entries-faults n (suc m) p readable w =
     go false = refl
 
 pub batch-put : (n epoch : ℕ) (w : List ℕ) (t : Tape) → Gives (outputBatch n epoch w t) (λ _ v q l. Put n epoch w (t .rest) v (q .rest) l)
-unfolding outputBatch outputs faults fivesAmong
+unfolding outputBatchIn outputs faults fivesAmong
 batch-put n epoch w t =
-    gives-onward (readFrom n 0 0 w t) _ _
-    (gives-map (readFrom n 0 0 w t) _ _ (read-out n n 0 0 w t (omega arith)) (λ a v q l x.
+    gives-onward (readFrom (recordLength n) n 0 0 w t) _ _
+    (gives-map (readFrom (recordLength n) n 0 0 w t) _ _ (read-out n n 0 0 w t (omega arith)) (λ a v q l x.
     record {
       rs = x .rs;
       same = x .same;
@@ -259,10 +260,10 @@ batch-put n epoch w t =
       named = x .named;
       nothing = x .nothing;
       fives =
-          ap fivesAmong (faults-append l (output 1 epoch (countBits n 0 a) ∷ (entriesFrom n n 0 a v ++ [])))
-          ∙ fives-append (faults l) (faults (entriesFrom n n 0 a v ++ []))
-          ∙ rw (append-nil (entriesFrom n n 0 a v), entries-faults n n 0 a v, x .fives) (append-nil (unreadableIn (x .rs)));
+          ap fivesAmong (faults-append l (output 1 epoch (countBits n 0 a) ∷ (entriesFrom (recordLength n) n 0 a v ++ [])))
+          ∙ fives-append (faults l) (faults (entriesFrom (recordLength n) n 0 a v ++ []))
+          ∙ rw (append-nil (entriesFrom (recordLength n) n 0 a v), entries-faults n n 0 a v, x .fives) (append-nil (unreadableIn (x .rs)));
       shown =
-          outputs-append l (output 1 epoch (countBits n 0 a) ∷ (entriesFrom n n 0 a v ++ []))
-          ∙ rw (append-nil (entriesFrom n n 0 a v), x .same, x .silent, x .count, x .entries);
+          outputs-append l (output 1 epoch (countBits n 0 a) ∷ (entriesFrom (recordLength n) n 0 a v ++ []))
+          ∙ rw (append-nil (entriesFrom (recordLength n) n 0 a v), x .same, x .silent, x .count, x .entries);
     }))

@@ -18,14 +18,14 @@ use Rattle.steps.specs.Taken.{orElse, isThere, isTrue, firstTaken, ofValue, ofD
 use Rattle.steps.proofs.Laws.{and-true}
 use Rattle.steps.proofs.Chains.{Good}
 use Rattle.steps.proofs.Read13.{GivesAs, Gives, gives-map, gives-cond, gives-ask, gives-onward, gives-inside, Neither, neither, neither-then, neither-1, thirteens-1, good-tail, outputs-append, faults-append}
-use Rattle.subset.specs.Words.{epochLength, statusAt}
+use Rattle.subset.specs.Words.{recordLength, epochLength, statusAt}
 use Rattle.subset.proofs.After.{AfterAs, After}
 use Rattle.subset.proofs.Votes.{Voted, voted-still, voted-after, voted-before}
 use Rattle.epoch.specs.declared.SubsetHandlingStrategy.{SubsetHandlingStrategy}
 use Rattle.epoch.specs.declared.MessageContent.{MessageContent}
 use Rattle.epoch.specs.Words.{isVacant, isComplete, isAccepted}
 use Rattle.epoch.specs.Epoch.{newEpoch, propose as proposeInEpoch, handleMessageContent}
-use Rattle.epoch.specs.Batch.{isReady, decryptedFrom, outputBatch}
+use Rattle.epoch.specs.Batch.{decryptedFrom, isReadyIn, isRead, isReady, outputBatch}
 use Rattle.epoch.proofs.Told.{nothing, fivesAmong, Quiet, shareOf, Told, Ready, EpochLaws}
 use Rattle.epoch.proofs.Batches.{Alive, alive-new, alive-propose, alive-message}
 use Rattle.engine.specs.State.{nodes, ahead, currentEpoch, faultyAt, inputAt, netOf, strategyOf, encryptedIn, epochWords, withEpoch}
@@ -49,9 +49,9 @@ gives-after {S} {A} r P Q h k = go (r .verdict) h
 
 -- an epoch that is not there is not ready
 vacant-waits : (n : ℕ) (x : List ℕ) → isVacant x ≡ true → isReady n x ≡ true → ⊥
-unfolding isReady
+unfolding isReadyIn
 vacant-waits n x e r =
-    let c : getD x statusAt 0 ≡ 2 = eqb-true (getD x statusAt 0) 2 (and-true (isComplete x) (decryptedFrom n n 0 x) r .0) in
+    let c : getD x statusAt 0 ≡ 2 = eqb-true (getD x statusAt 0) 2 (and-true (isComplete x) (decryptedFrom (recordLength n) n 0 x) r .0) in
     omega (arith, eqb-true (getD x statusAt 0) 0 e)
 
 new-long : (n : ℕ) → length (newEpoch n) ≡ epochLength n
@@ -103,7 +103,7 @@ module _ (Holds : NetworkInfo → SubsetHandlingStrategy → Bool → List ℕ �
   unfolding netOf
   batch-of w cur vs ds ts ws v r l ready k = record {
     text = textIn (nodes w₀) (epochWords w cur);
-    named = k .named ∙ names-same (isAccepted (epochWords w cur)) (λ q. isTrue (ds cur q)) (nodes w₀) 0 (λ q a b. ready .accepted q (omega arith));
+    named = k .named ∙ names-same (isRead (recordLength (nodes w₀)) (epochWords w cur)) (λ q. isTrue (ds cur q)) (nodes w₀) 0 (λ q a b. ready .read q (omega arith));
     decided = ready .decided;
     known = ready .known;
     texts = ready .plaintext;

@@ -29,7 +29,7 @@ use Rattle.epoch.specs.declared.MessageContent.{MessageContent}
 use Rattle.epoch.specs.declared.MessageContent.the-variants.{Broadcast, Agreement, DecryptionShare}
 use Rattle.epoch.specs.Words.{isVacant, isComplete, isAccepted, accept, DecryptionState, missing, ongoing, complete, decryptionAt, plaintextAt, ciphertextAt, hadInputAt, terminatedAt, shareAt, loadDecryption, setShares, storeEntry, storeDecryption}
 use Rattle.epoch.specs.Epoch.{newEpoch, firstContributions, entryAfter, handlesNow, subsetComplete, proposalDropped, processDecryption, callEntry, sendDecryptionShare, handleDecryptionShare, finishAt, finishFrom, handleContribution, handleFrom, handleContributions, processSubset, handedUp, callSubset, propose, handleMessageContent}
-use Rattle.epoch.specs.Batch.{isReady}
+use Rattle.epoch.proofs.Shares.{by-entry, by-share}
 
 -- AN EPOCH THAT IS THERE STAYS: its status never becomes 0 again
 pub record Alive (w : List ℕ) : Type 0 where
@@ -169,21 +169,15 @@ module _ (net : NetworkInfo) where
   unfolding processDecryption
   alive-process p w r h = alive-onward _ _ (alive-decryption (net .«num_nodes») w p (entryAfter (r .verdict) (r .state)) h) (λ _ w q h. h)
 
-  alive-call : (s : DecryptionState) (p : ℕ) (w : List ℕ) (t : Tape) (call : ThresholdDecrypt → Tape → Run ThresholdDecrypt (Option ℕ)) → Alive w → Alive (callEntry net s p w t call .state)
-  unfolding callEntry
-  alive-call missing p w t call h = alive-process p w (call new t) h
-  alive-call (ongoing td) p w t call h = alive-process p w (call td t) h
-  alive-call (complete plaintext) p w t call h = h
+  alive-call : (p : ℕ) (call : ThresholdDecrypt → Tape → Run ThresholdDecrypt (Option ℕ)) (w : List ℕ) (t : Tape) → Alive w → Alive (callEntry net p call w t .state)
+  alive-call p call w t h = by-entry net p w t (λ r. Alive (r .state)) call (alive-process p w _ h) h
 
   alive-send : (p value : ℕ) (w : List ℕ) (t : Tape) → Alive w → Alive (sendDecryptionShare net p value w t .state)
   unfolding sendDecryptionShare
-  alive-send p value w t h = alive-heard (askAbout t 8 p) w _ h (λ a b q. alive-cond (eqb a 0) _ _ h (alive-call (loadDecryption (net .«num_nodes») w p) p w q _ h))
+  alive-send p value w t h = alive-heard (askAbout t 8 p) w _ h (λ a b q. alive-cond (eqb a 0) _ _ h (alive-call p _ w q h))
 
   alive-share : (sender p share : ℕ) (w : List ℕ) (t : Tape) → Alive w → Alive (handleDecryptionShare net sender p share w t .state)
-  unfolding handleDecryptionShare
-  alive-share sender p share w t h =
-      alive-cond (isComplete w) _ _ (alive-cond (isAccepted w p) _ _ (alive-call (loadDecryption (net .«num_nodes») w p) p w t _ h) h)
-      (alive-call (loadDecryption (net .«num_nodes») w p) p w t _ h)
+  alive-share sender p share w t h = by-share net p w t (λ r. Alive (r .state)) sender share h (alive-call p _ w t h)
 
   alive-finish : (p : ℕ) (w : List ℕ) (t : Tape) → Alive w → Alive (finishAt net p w t .state)
   unfolding finishAt

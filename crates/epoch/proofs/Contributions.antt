@@ -136,7 +136,7 @@ module _ (net : NetworkInfo) (p value : ℕ) (w : List ℕ) (u : Tape) (v t : �
         text = text-accept (loadDecryption n w p) (isAccepted w p) (v p) (t p) (k p inside);
         others = λ q ne. refl;
       })
-      (after-map (callEntry net (loadDecryption n w p) p w z (inputCiphertext net p value)) _ _ (input-entry net p w z inside size value (isAccepted w p) (v p) (t p) (k p inside)) (λ _ w′ y h. record {
+      (after-map (callEntry net p (inputCiphertext net p value) w z) _ _ (input-entry net p w z inside size value (isAccepted w p) (v p) (t p) (k p inside)) (λ _ w′ y h. record {
         t′ = more t p (h .o);
         who′ = some p;
         opening = opening-then (eight z r) (opening-ran t p (z .rest) (h .o) (y .rest) (h .ran));

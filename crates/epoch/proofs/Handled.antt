@@ -2,7 +2,7 @@
 use Prim.Native.Nat.{ℕ, _≤_, _<_}
 use mathlib.Core.Path.{_≡_, refl, sym, ap, _∙_}
 use mathlib.Core.List.{List}
-use mathlib.Core.Bool.{Bool, true, false, cond}
+use mathlib.Core.Bool.{Bool, true, false, cond, _||_}
 use mathlib.Core.Option.{Option, none, some}
 use native.Mathlib.Omega.{arith}
 use lib.ListN.{length, getD}
@@ -18,7 +18,7 @@ use Rattle.decryption.specs.Decrypt.{new, handleMessage as handleShare}
 use Rattle.subset.specs.Words.{epochLength, recordAt}
 use Rattle.subset.proofs.After.{AfterAs, After, after-map}
 use Rattle.subset.proofs.Taken.{more, link-more}
-use Rattle.epoch.specs.Words.{isAccepted, DecryptionState, missing, ongoing, complete, decryptionAt, plaintextAt, ciphertextAt, loadInstance, loadDecryption, storeDecryption}
+use Rattle.epoch.specs.Words.{isAccepted, DecryptionState, missing, ongoing, complete, entryNone, entryOngoing, asks, loadEntry, decryptionAt, plaintextAt, ciphertextAt, loadInstance, loadDecryption, storeDecryption}
 use Rattle.epoch.specs.Epoch.{entryAfter, processDecryption, callEntry, inputCiphertext}
 use Rattle.epoch.proofs.Passes.{decryptionKinds}
 use Rattle.epoch.proofs.Texts.{opens-none, Ran, SharedWith, input-ran, share-ran}
@@ -178,9 +178,9 @@ module _ (net : NetworkInfo) (p : ℕ) (w : List ℕ) (u : Tape) (inside : p < n
   n = net .«num_nodes»
 
   pub share-entry : (encrypted : Bool) (sender share : ℕ) (a : Bool) (v t : Option ℕ) → TextOk encrypted (loadDecryption n w p) a v t
-      → After (callEntry net (loadDecryption n w p) p w u (handleShare net p sender share)) (λ _ w′ z. Dealt encrypted n p w a v t (u .rest) w′ (z .rest))
-  unfolding callEntry
-  share-entry encrypted sender share a v t h = go (loadDecryption n w p) h
+      → After (callEntry net p (handleShare net p sender share) w u) (λ _ w′ z. Dealt encrypted n p w a v t (u .rest) w′ (z .rest))
+  unfolding callEntry asks loadEntry loadDecryption
+  share-entry encrypted sender share a v t h = go (eqb (getD w (decryptionAt n p) 0) entryNone) (eqb (getD w (decryptionAt n p) 0) entryOngoing) h
     where
       from : (td : ThresholdDecrypt) → TextOk encrypted (ongoing td) a v t
           → After (processDecryption net p w (handleShare net p sender share td u)) (λ _ w′ z. Dealt encrypted n p w a v t (u .rest) w′ (z .rest))
@@ -193,15 +193,16 @@ module _ (net : NetworkInfo) (p : ℕ) (w : List ℕ) (u : Tape) (inside : p < n
             text = text-stored n p w inside size encrypted (entryAfter (going o) td′) a v (orElse t o) (share-text encrypted td td′ o a v t (u .rest) (z .rest) k s);
           }))
 
-      go : (d : DecryptionState) → TextOk encrypted d a v t → After (callEntry net d p w u (handleShare net p sender share)) (λ _ w′ z. Dealt encrypted n p w a v t (u .rest) w′ (z .rest))
-      go missing k = from new (text-new encrypted a v t k)
-      go (ongoing td) k = from td k
-      go (complete x) k = dealt-not encrypted n p w a v t (u .rest) h
+      go : (x y : Bool) → TextOk encrypted (cond x missing (cond y (ongoing (loadInstance n w p)) (complete (getD w (plaintextAt n p) 0)))) a v t
+          → After (cond (x || y) (processDecryption net p w (handleShare net p sender share (cond x new (loadInstance n w p)) u)) (ends (going tt) w u)) (λ _ w′ z. Dealt encrypted n p w a v t (u .rest) w′ (z .rest))
+      go true y k = from new (text-new encrypted a v t k)
+      go false true k = from (loadInstance n w p) k
+      go false false k = dealt-not encrypted n p w a v t (u .rest) h
 
   pub input-entry : (value : ℕ) (a : Bool) (v t : Option ℕ) → TextOk true (loadDecryption n w p) a v t
-      → After (callEntry net (loadDecryption n w p) p w u (inputCiphertext net p value)) (λ _ w′ z. Dealt true n p w true v t (u .rest) w′ (z .rest))
-  unfolding callEntry TextOk
-  input-entry value a v t h = go (loadDecryption n w p) h
+      → After (callEntry net p (inputCiphertext net p value) w u) (λ _ w′ z. Dealt true n p w true v t (u .rest) w′ (z .rest))
+  unfolding callEntry asks loadEntry loadDecryption TextOk
+  input-entry value a v t h = go (eqb (getD w (decryptionAt n p) 0) entryNone) (eqb (getD w (decryptionAt n p) 0) entryOngoing) h
     where
       from : (td : ThresholdDecrypt) → t ≡ none → After (processDecryption net p w (inputCiphertext net p value td u)) (λ _ w′ z. Dealt true n p w true v t (u .rest) w′ (z .rest))
       from td k =
@@ -213,10 +214,11 @@ module _ (net : NetworkInfo) (p : ℕ) (w : List ℕ) (u : Tape) (inside : p < n
             text = text-stored n p w inside size true (entryAfter (going o) td′) true v (orElse t o) (input-text td′ o v t k);
           }))
 
-      go : (d : DecryptionState) → TextOk true d a v t → After (callEntry net d p w u (inputCiphertext net p value)) (λ _ w′ z. Dealt true n p w true v t (u .rest) w′ (z .rest))
-      go missing k = from new k
-      go (ongoing td) k = from td (k .0)
-      go (complete x) k = dealt-not true n p w true v t (u .rest) (text-accept (loadDecryption n w p) a v t h)
+      go : (x y : Bool) → TextOk true (cond x missing (cond y (ongoing (loadInstance n w p)) (complete (getD w (plaintextAt n p) 0)))) a v t
+          → After (cond (x || y) (processDecryption net p w (inputCiphertext net p value (cond x new (loadInstance n w p)) u)) (ends (going tt) w u)) (λ _ w′ z. Dealt true n p w true v t (u .rest) w′ (z .rest))
+      go true y k = from new k
+      go false true k = from (loadInstance n w p) (k .0)
+      go false false k = dealt-not true n p w true v t (u .rest) (text-accept (loadDecryption n w p) a v t h)
 
 -- THE ENTRIES of all proposers
 abbrev pub TextsOk : Bool → ℕ → List ℕ → (ℕ → Option ℕ) → (ℕ → Option ℕ) → Type 0

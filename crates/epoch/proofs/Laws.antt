@@ -21,7 +21,7 @@ use Rattle.steps.proofs.Laws.{and-true}
 use Rattle.steps.proofs.Chains.{Good}
 use Rattle.steps.proofs.Past.{Past, Others, past-first, past-thirteens, past-decrypted, past-good}
 use Rattle.decryption.specs.Decrypt.{handleMessage as handleShare}
-use Rattle.subset.specs.Words.{epochLength, statusAt, decidedAt, acceptedAt, countAt, recordAt}
+use Rattle.subset.specs.Words.{recordLength, epochLength, statusAt, decidedAt, acceptedAt, countAt, recordAt}
 use Rattle.subset.specs.Subset.{propose as proposeSubset, handleMessage as handleSubset}
 use Rattle.subset.specs.Rule.{isOver, settledFrom, proposing, broadcasting, agreeing, callSubset as callRule}
 use Rattle.subset.proofs.After.{After, after-map, after-cond, after-onward}
@@ -34,10 +34,11 @@ use Rattle.epoch.specs.declared.SubsetHandlingStrategy.{SubsetHandlingSt
 use Rattle.epoch.specs.declared.SubsetHandlingStrategy.the-variants.{Incremental, AllAtEnd}
 use Rattle.epoch.specs.declared.MessageContent.{MessageContent}
 use Rattle.epoch.specs.declared.MessageContent.the-variants.{Broadcast, Agreement, DecryptionShare}
-use Rattle.epoch.specs.Words.{isComplete, isAccepted, hasBit, missing, ongoing, complete, decryptionAt, plaintextAt, loadInstance, loadDecryption}
+use Rattle.epoch.specs.Words.{isComplete, isAccepted, hasBit, missing, ongoing, complete, entryComplete, isSettled, isOpen, decryptionAt, plaintextAt, loadInstance, loadDecryption}
 use Rattle.epoch.specs.Epoch.{newEpoch, callEntry, handleDecryptionShare, processSubset, handedUp, callSubset, propose, handleMessageContent}
-use Rattle.epoch.specs.Batch.{isDecrypted, decryptedFrom, isReady}
+use Rattle.epoch.specs.Batch.{decryptedFrom, isReadyIn, isRead, isReady}
 use Rattle.epoch.proofs.Told.{nothing, shareOf, Told, Ready, EpochLaws}
+use Rattle.epoch.proofs.Shares.{by-share}
 use Rattle.epoch.proofs.Orderly.{Orderly}
 use Rattle.epoch.proofs.Passes.{subsetKinds, decryptionKinds, subset-eight, subset-twelve, subset-thirteen, decryption-value, decryption-decision, decryption-thirteen, outside-status, outside-accepted, outside-record, Frame, propose-subset-runs, handle-subset-runs, quiet-proposed, quiet-handled}
 use Rattle.epoch.proofs.Texts.{after-ask, reads-past, after-with}
@@ -225,13 +226,13 @@ module _ (net : NetworkInfo) (strategy : SubsetHandlingStrategy) (encrypted : Bo
 
   share-ok : (sender p share : ℕ) → p < net .«num_nodes» → (u : Tape) → Good (net .«num_nodes») (u .rest)
       → After (handleDecryptionShare net sender p share w u) (λ _ w′ z. Told Holds net strategy encrypted v d t (some p) (u .rest) w′ (z .rest))
-  unfolding handleDecryptionShare
   share-ok sender p share l u g =
-      after-cond (isComplete w) _ _ _ (after-cond (isAccepted w p) _ _ _ deals (told-still net strategy encrypted w v d t (some p) (u .rest) h g)) deals
+      by-share net p w u (λ r. After r (λ _ w′ z. Told Holds net strategy encrypted v d t (some p) (u .rest) w′ (z .rest))) sender share
+      (told-still net strategy encrypted w v d t (some p) (u .rest) h g) deals
     where
-      deals : After (callEntry net (loadDecryption (net .«num_nodes») w p) p w u (handleShare net p sender share)) (λ _ w′ z. Told Holds net strategy encrypted v d t (some p) (u .rest) w′ (z .rest))
+      deals : After (callEntry net p (handleShare net p sender share) w u) (λ _ w′ z. Told Holds net strategy encrypted v d t (some p) (u .rest) w′ (z .rest))
       deals =
-          after-map (callEntry net (loadDecryption (net .«num_nodes») w p) p w u (handleShare net p sender share)) _ _
+          after-map (callEntry net p (handleShare net p sender share) w u) _ _
           (share-entry net p w u l (h .size) encrypted sender share (isAccepted w p) (v p) (t p) (h .texts p l))
           (λ _ w′ z a. told-dealt net strategy encrypted p w v d t (u .rest) w′ (z .rest) h g a)
 
@@ -295,33 +296,35 @@ fresh-holds net strategy encrypted k = record {
     held = blank-held (handledBy strategy nothing nothing) (none-handled strategy) (net .«num_nodes»)
 
 -- AN EPOCH THAT IS READY
-decrypted-at : (n m p : ℕ) (w : List ℕ) → decryptedFrom n m p w ≡ true → (q : ℕ) → p ≤ q → q < p + m → isAccepted w q ≡ true → isDecrypted (loadDecryption n w q) ≡ true
+settled-at : (n m p : ℕ) (w : List ℕ) → decryptedFrom (recordLength n) m p w ≡ true → (q : ℕ) → p ≤ q → q < p + m → isAccepted w q ≡ true
+    → isSettled (getD w (decryptionAt n q) 0) ≡ true
 unfolding decryptedFrom
-decrypted-at n zero p w e q l h a = absurd (omega arith)
-decrypted-at n (suc m) p w e q l h a = go (eqb q p) refl (decrypted-at n m (p + 1) w (two .1) q)
+settled-at n zero p w e q l h a = absurd (omega arith)
+settled-at n (suc m) p w e q l h a = go (eqb q p) refl (settled-at n m (p + 1) w (two .1) q)
   where
-    two : (cond (isAccepted w p) (isDecrypted (loadDecryption n w p)) true ≡ true) × (decryptedFrom n m (p + 1) w ≡ true)
-    two = and-true (cond (isAccepted w p) (isDecrypted (loadDecryption n w p)) true) (decryptedFrom n m (p + 1) w) e
+    two : (cond (isAccepted w p) (isSettled (getD w (decryptionAt n p) 0)) true ≡ true) × (decryptedFrom (recordLength n) m (p + 1) w ≡ true)
+    two = and-true (cond (isAccepted w p) (isSettled (getD w (decryptionAt n p) 0)) true) (decryptedFrom (recordLength n) m (p + 1) w) e
 
-    go : (x : Bool) → eqb q p ≡ x → (p + 1 ≤ q → q < p + 1 + m → isAccepted w q ≡ true → isDecrypted (loadDecryption n w q) ≡ true) → isDecrypted (loadDecryption n w q) ≡ true
+    go : (x : Bool) → eqb q p ≡ x → (p + 1 ≤ q → q < p + 1 + m → isAccepted w q ≡ true → isSettled (getD w (decryptionAt n q) 0) ≡ true) → isSettled (getD w (decryptionAt n q) 0) ≡ true
     go true y f =
         let z : q ≡ p = eqb-true q p y in
         let b : isAccepted w p ≡ true = rw z at a in
         rw z (rw b at (two .0))
     go false y f = let ne = eqb-false q p y in f (omega arith) (omega arith) a
 
-text-word : (encrypted : Bool) (n : ℕ) (w : List ℕ) (q : ℕ) (a : Bool) (v t : Option ℕ) → isDecrypted (loadDecryption n w q) ≡ true → TextOk encrypted (loadDecryption n w q) a v t
+-- what is settled is open
+settled-open : (tag : ℕ) → isSettled tag ≡ true → isOpen tag ≡ true
+unfolding isSettled isOpen
+settled-open tag e = e
+
+text-word : (encrypted : Bool) (n : ℕ) (w : List ℕ) (q : ℕ) (a : Bool) (v t : Option ℕ) → isSettled (getD w (decryptionAt n q) 0) ≡ true → TextOk encrypted (loadDecryption n w q) a v t
     → cond encrypted t v ≡ some (getD w (plaintextAt n q) 0)
-unfolding loadDecryption isDecrypted TextOk
-text-word encrypted n w q a v t e h = go encrypted (eqb (getD w (decryptionAt n q) 0) 0) (eqb (getD w (decryptionAt n q) 0) 1) e h
+unfolding loadDecryption isSettled TextOk
+text-word encrypted n w q a v t e h = go encrypted (rw (eqb-true (getD w (decryptionAt n q) 0) entryComplete e) at h)
   where
-    go : (c x y : Bool) → isDecrypted (cond x missing (cond y (ongoing (loadInstance n w q)) (complete (getD w (plaintextAt n q) 0)))) ≡ true
-        → TextOk c (cond x missing (cond y (ongoing (loadInstance n w q)) (complete (getD w (plaintextAt n q) 0)))) a v t
-        → cond c t v ≡ some (getD w (plaintextAt n q) 0)
-    go c true y e h = absurd (false≢true e)
-    go c false true e h = absurd (false≢true e)
-    go true false false e h = h .0
-    go false false false e h = h .1
+    go : (c : Bool) → TextOk c (complete (getD w (plaintextAt n q) 0)) a v t → cond c t v ≡ some (getD w (plaintextAt n q) 0)
+    go true h = h .0
+    go false h = h .1
 
 -- where every agreement has decided and every value decided 1 is here
 settled-known : (v d : ℕ → Option ℕ) (m p : ℕ) → settledFrom v d m p ≡ true → (q : ℕ) → p ≤ q → q < p + m → isTrue (d q) ≡ true → isThere (v q) ≡ true
@@ -343,23 +346,34 @@ settled-known v d (suc m) p s q l h t = go (eqb q p) refl (settled-known v d m (
 
 pub ready-holds : (net : NetworkInfo) (strategy : SubsetHandlingStrategy) (encrypted : Bool) (w : List ℕ) (v d t : ℕ → Option ℕ)
     → Holds net strategy encrypted w v d t → isReady (net .«num_nodes») w ≡ true → Ready Holds net encrypted w v d t
-unfolding isReady
+unfolding isReadyIn isRead
 ready-holds net strategy encrypted w v d t h e = go (h .stage)
   where
     n : ℕ
     n = net .«num_nodes»
 
-    two : (isComplete w ≡ true) × (decryptedFrom (net .«num_nodes») (net .«num_nodes») 0 w ≡ true)
-    two = and-true (isComplete w) (decryptedFrom (net .«num_nodes») (net .«num_nodes») 0 w) e
+    two : (isComplete w ≡ true) × (decryptedFrom (recordLength (net .«num_nodes»)) (net .«num_nodes») 0 w ≡ true)
+    two = and-true (isComplete w) (decryptedFrom (recordLength (net .«num_nodes»)) (net .«num_nodes») 0 w) e
+
+    settled : (q : ℕ) → q < net .«num_nodes» → isAccepted w q ≡ true → isSettled (getD w (decryptionAt (net .«num_nodes») q) 0) ≡ true
+    settled q l a = settled-at n n 0 w (two .1) q (omega arith) (omega arith) a
+
+    -- an accepted one is open, so that exactly these are read
+    read : (q : ℕ) → q < net .«num_nodes» → isAccepted w q && isOpen (getD w (decryptionAt (net .«num_nodes») q) 0) ≡ isAccepted w q
+    read q l = by (isAccepted w q) refl
+      where
+        by : (x : Bool) → isAccepted w q ≡ x → isAccepted w q && isOpen (getD w (decryptionAt (net .«num_nodes») q) 0) ≡ isAccepted w q
+        by true a = rw (a, settled-open (getD w (decryptionAt (net .«num_nodes») q) 0) (settled q l a))
+        by false a = rw a
 
     go : Going net strategy w v d ⊎ Done net w v d → Ready Holds net encrypted w v d t
     go (inl s) = absurd (omega (arith, s .status, eqb-true (getD w statusAt 0) 2 (two .0)))
     go (inr s) = record {
       decided = settled-decided v d n (s .settled);
-      accepted = s .accepted;
+      read = λ q l. read q l ∙ s .accepted q l;
       known = λ q l o. settled-known v d n 0 (s .settled) q (omega arith) (omega arith) o;
       plaintext = λ q l o.
-          text-word encrypted n w q (isAccepted w q) (v q) (t q) (decrypted-at n n 0 w (two .1) q (omega arith) (omega arith) (s .accepted q l ∙ o)) (h .texts q l);
+          text-word encrypted n w q (isAccepted w q) (v q) (t q) (settled q l (s .accepted q l ∙ o)) (h .texts q l);
       enough = s .enough;
     }
 

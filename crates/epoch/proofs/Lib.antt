@@ -2,6 +2,7 @@
 pub mod RangesWords
 pub mod Ranges
 pub mod Told
+pub mod Shares
 pub mod Orderly
 pub mod Passes
 pub mod Texts

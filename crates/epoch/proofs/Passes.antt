@@ -35,6 +35,7 @@ use Rattle.epoch.specs.declared.MessageContent.the-variants.{Broadcast, 
 use Rattle.epoch.specs.Words.{isComplete, isAccepted, DecryptionState, missing, ongoing, complete}
 use Rattle.epoch.specs.Epoch.{firstContributions, unexpectedFrom, unexpectedShares, handlesNow, processDecryption, callEntry, inputCiphertext, sendDecryptionShare, handleDecryptionShare, finishAt, finishFrom, handleContribution, handleFrom, handleContributions, processSubset, handedUp, callSubset, propose, handleMessageContent}
 use Rattle.epoch.proofs.Told.{Quiet}
+use Rattle.epoch.proofs.Shares.{by-entry, by-share}
 use Rattle.epoch.proofs.Orderly.{quiet-none, quiet-append, quiet-message, quiet-fault, Orderly, Any, anyKind, orderly-any, orderly-ends, orderly-before, orderly-cond, orderly-ask, orderly-about, orderly-onward, orderly-inside, orderly-parts}
 
 -- THE KINDS that the subset reads, and those that decrypting a contribution reads
@@ -324,24 +325,18 @@ module _ (net : NetworkInfo) where
   unfolding processDecryption
   process-runs p w u r k = orderly-onward _ _ (record { state = tt; past = k .past; quiet = k .quiet }) (λ _ w q _. orderly-ends tt)
 
-  entry-runs : (d : DecryptionState) (p : ℕ) (w : List ℕ) (u : Tape) (call : ThresholdDecrypt → Tape → Run ThresholdDecrypt (Option ℕ)) → Decrypts call
-      → Orderly Any anyKind u (callEntry net d p w u call)
-  unfolding callEntry
-  entry-runs missing p w u call h = process-runs p w u _ (orderly-any (h new u))
-  entry-runs (ongoing td) p w u call h = process-runs p w u _ (orderly-any (h td u))
-  entry-runs (complete plaintext) p w u call h = orderly-ends tt
+  entry-runs : (p : ℕ) (call : ThresholdDecrypt → Tape → Run ThresholdDecrypt (Option ℕ)) → Decrypts call → Quietly (callEntry net p call)
+  entry-runs p call h w u = by-entry net p w u (Orderly Any anyKind u) call (process-runs p w u _ (orderly-any (h _ u))) (orderly-ends tt)
 
   send-runs : (p value : ℕ) → Quietly (sendDecryptionShare net p value)
   unfolding sendDecryptionShare
   send-runs p value w u =
       orderly-about u 8 p w _ refl tt (λ a b q.
-      orderly-cond (eqb a 0) _ _ (orderly-before (quiet-fault 3 p 0 refl) (orderly-ends tt)) (entry-runs _ p w q _ (input-runs net p value)))
+      orderly-cond (eqb a 0) _ _ (orderly-before (quiet-fault 3 p 0 refl) (orderly-ends tt)) (entry-runs p _ (input-runs net p value) w q))
 
   share-message-runs : (sender p share : ℕ) → Quietly (handleDecryptionShare net sender p share)
-  unfolding handleDecryptionShare
   share-message-runs sender p share w u =
-      let k = entry-runs _ p w u _ (share-runs net p sender share) in
-      orderly-cond (isComplete w) _ _ (orderly-cond (isAccepted w p) _ _ k (orderly-before (quiet-fault 2 sender 0 refl) (orderly-ends tt))) k
+      by-share net p w u (Orderly Any anyKind u) sender share (orderly-before (quiet-fault 2 sender 0 refl) (orderly-ends tt)) (entry-runs p _ (share-runs net p sender share) w u)
 
   finish-at-runs : (p : ℕ) → Quietly (finishAt net p)
   unfolding finishAt

@@ -12,15 +12,16 @@ use Rattle.steps.specs.Answers.{Tape}
 use Rattle.steps.specs.Runs.{Verdict, going, refused, failed, Run}
 use Rattle.steps.proofs.Ranges.{AllSmall, Says, says-any, Kept, Any, SmallOption, kept-going, kept-failed, kept-before, kept-cond, kept-ask, kept-about, kept-onward, kept-inside, below-zeros}
 use Rattle.decryption.specs.declared.ThresholdDecrypt.{ThresholdDecrypt}
-use Rattle.decryption.proofs.Ranges.{InstanceOk, Safe, new-ok, set-safe, start-safe, handle-safe as share-safe}
-use Rattle.subset.specs.Words.{epochLength, statusAt, decidedAt, countAt, proposalAt, valueAt}
+use Rattle.decryption.proofs.Ranges.{InstanceOk, Safe, set-safe, start-safe, handle-safe as share-safe}
+use Rattle.subset.specs.Words.{recordLength, epochLength, statusAt, decidedAt, countAt, proposalAt, valueAt}
 use Rattle.subset.proofs.Ranges.{limitAt, limit-some, EpochOk, set-own, field-below, drop-ok, SafeEpoch, propose-safe as propose-subset-safe, handle-safe as handle-subset-safe}
 use Rattle.epoch.specs.declared.SubsetHandlingStrategy.{SubsetHandlingStrategy}
 use Rattle.epoch.specs.declared.MessageContent.{MessageContent}
 use Rattle.epoch.specs.declared.MessageContent.the-variants.{Broadcast, Agreement, DecryptionShare}
-use Rattle.epoch.specs.Words.{isComplete, isAccepted, DecryptionState, missing, ongoing, complete}
+use Rattle.epoch.specs.Words.{isComplete, isAccepted, missing, complete}
 use Rattle.epoch.specs.Epoch.{newEpoch, firstContributions, entryAfter, handlesNow, subsetComplete, proposalDropped, processDecryption, callEntry, inputCiphertext, sendDecryptionShare, handleDecryptionShare, finishAt, finishFrom, handleContribution, handleFrom, handleContributions, processSubset, handedUp, callSubset, propose, handleMessageContent}
-use Rattle.epoch.specs.Batch.{readAt, readFrom, outputBatch}
+use Rattle.epoch.specs.Batch.{isRead, readAt, readFrom, outputBatchIn, outputBatch}
+use Rattle.epoch.proofs.Shares.{by-entry, by-share}
 use Rattle.epoch.proofs.RangesWords.{EntryOk, load-entry-ok, store-entry-ok, accept-ok}
 
 -- a share that comes in a message is a handle
@@ -54,22 +55,22 @@ module _ (n : ℕ) (some : 0 < n) where
   dropped-ok w p h = set-own n _ (valueAt n p) 0 (set-own n w (proposalAt n p) 0 h (limit-some n _ some)) (limit-some n _ some)
 
 -- the batch of an epoch changes no word
-read-at-safe : (n p readable : ℕ) → SafeEpoch n (readAt p readable)
+read-at-safe : (n size p readable : ℕ) → SafeEpoch n (readAt size p readable)
 unfolding readAt
-read-at-safe n p readable w tape h o =
-    kept-cond (isAccepted w p) _ _
+read-at-safe n size p readable w tape h o =
+    kept-cond (isRead size w p) _ _
     (λ _. kept-about tape 13 p w _ refl h o (λ a b q _ o.
     kept-cond (eqb a 0) _ _ (λ _. kept-before (kept-going h o tt)) (λ _. kept-going h o tt)))
     (λ _. kept-going h o tt)
 
-read-safe : (n m p readable : ℕ) → SafeEpoch n (readFrom m p readable)
+read-safe : (n size m p readable : ℕ) → SafeEpoch n (readFrom size m p readable)
 unfolding readFrom
-read-safe n zero p readable w tape h o = kept-going h o tt
-read-safe n (suc m) p readable w tape h o = kept-onward _ _ (read-at-safe n p readable w tape h o) (λ readable w q h o _. read-safe n m (p + 1) readable w q h o)
+read-safe n size zero p readable w tape h o = kept-going h o tt
+read-safe n size (suc m) p readable w tape h o = kept-onward _ _ (read-at-safe n size p readable w tape h o) (λ readable w q h o _. read-safe n size m (p + 1) readable w q h o)
 
 pub batch-safe : (n epoch : ℕ) → SafeEpoch n (outputBatch n epoch)
-unfolding outputBatch
-batch-safe n epoch w p h o = kept-onward _ _ (read-safe n n 0 0 w p h o) (λ readable w q h o _. kept-before (kept-going h o tt))
+unfolding outputBatchIn
+batch-safe n epoch w p h o = kept-onward _ _ (read-safe n (recordLength n) n 0 0 w p h o) (λ readable w q h o _. kept-before (kept-going h o tt))
 
 module _ (net : NetworkInfo) (some : 0 < net .«num_nodes») (few : net .«num_nodes» ≤ 16) where
   process-safe : (p : ℕ) (w : List ℕ) (r : Run ThresholdDecrypt (Option ℕ)) → EpochOk (net .«num_nodes») w → Kept InstanceOk SmallOption r
@@ -84,12 +85,10 @@ module _ (net : NetworkInfo) (some : 0 < net .«num_nodes») (few : net .«num_n
       })
       (λ _ w q h o _. kept-going h o tt)
 
-  entry-safe : (d : DecryptionState) (p : ℕ) (w : List ℕ) (tape : Tape) (call : ThresholdDecrypt → Tape → Run ThresholdDecrypt (Option ℕ))
-      → EntryOk d → Safe SmallOption call → EpochOk (net .«num_nodes») w → AllSmall (tape .rest) → Kept (EpochOk (net .«num_nodes»)) Any (callEntry net d p w tape call)
-  unfolding callEntry EntryOk
-  entry-safe missing p w tape call u s h o = process-safe p w _ h (s _ tape new-ok o)
-  entry-safe (ongoing td) p w tape call u s h o = process-safe p w _ h (s td tape u o)
-  entry-safe (complete plaintext) p w tape call u s h o = kept-going h o tt
+  entry-safe : (p : ℕ) (call : ThresholdDecrypt → Tape → Run ThresholdDecrypt (Option ℕ)) → Safe SmallOption call → SafeEpoch (net .«num_nodes») (callEntry net p call)
+  entry-safe p call s w tape h o =
+      by-entry net p w tape (Kept (EpochOk (net .«num_nodes»)) Any) call
+      (process-safe p w _ h (s _ tape (load-entry-ok (net .«num_nodes») p w few h) o)) (kept-going h o tt)
 
   input-safe : (p value : ℕ) → value < 4294967296 → Safe SmallOption (inputCiphertext net p value)
   unfolding inputCiphertext SmallOption
@@ -102,15 +101,12 @@ module _ (net : NetworkInfo) (some : 0 < net .«num_nodes») (few : net .«num_n
   send-safe p value l w tape h o =
       kept-about tape 8 p w _ refl h o (λ a b q _ o.
       kept-cond (eqb a 0) _ _ (λ _. kept-before (kept-going h o tt))
-      (λ _. entry-safe _ p w q _ (load-entry-ok (net .«num_nodes») p w few h) (input-safe p value l) h o))
+      (λ _. entry-safe p _ (input-safe p value l) w q h o))
 
   share-message-safe : (sender p share : ℕ) → share < 4294967296 → SafeEpoch (net .«num_nodes») (handleDecryptionShare net sender p share)
-  unfolding handleDecryptionShare
   share-message-safe sender p share l w tape h o =
-      let k = entry-safe _ p w tape _ (load-entry-ok (net .«num_nodes») p w few h) (share-safe net p sender share l) h o in
-      kept-cond (isComplete w) _ _
-      (λ _. kept-cond (isAccepted w p) _ _ (λ _. k) (λ _. kept-before (kept-going h o tt)))
-      (λ _. k)
+      by-share net p w tape (Kept (EpochOk (net .«num_nodes»)) Any) sender share
+      (kept-before (kept-going h o tt)) (entry-safe p _ (share-safe net p sender share l) w tape h o)
 
   finish-at-safe : (p : ℕ) → SafeEpoch (net .«num_nodes») (finishAt net p)
   unfolding finishAt EntryOk

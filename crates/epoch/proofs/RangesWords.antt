@@ -16,7 +16,7 @@ use Rattle.decryption.specs.Decrypt.{new}
 use Rattle.decryption.proofs.Ranges.{handles, InstanceOk, new-ok}
 use Rattle.subset.specs.Words.{recordLength, epochLength, statusAt, decidedAt, acceptedAt, countAt, recordAt, proposalAt}
 use Rattle.subset.proofs.Ranges.{ownLimit, fieldLimit, limitAt, limit-own, limit-field, limit-share, limit-some, two-some, EpochOk, set-field, set-own, field-below}
-use Rattle.epoch.specs.Words.{hasBit, withBit, accept, DecryptionState, missing, ongoing, complete, decryptionAt, plaintextAt, hadInputAt, terminatedAt, shareAt, sharesFrom, loadInstance, loadDecryption, setShares, flag, storeEntry, storeDecryption, maybeHandle, allFrom, recordInRange, recordsInRange, epochInRange}
+use Rattle.epoch.specs.Words.{hasBit, withBit, accept, DecryptionState, missing, ongoing, complete, decryptionAt, plaintextAt, hadInputAt, terminatedAt, shareAt, sharesFrom, entryNone, loadInstance, loadEntry, setShares, flag, storeEntry, storeDecryption, maybeHandle, allFrom, recordInRange, recordsInRange, epochInRange}
 
 -- THE ACCEPTED PROPOSERS. A bit below n leaves the word below 2^n
 module _ (n x i : ℕ) (l : i < n) (h : x < 2 ^ n) where
@@ -70,14 +70,13 @@ module _ (n : ℕ) (p : ℕ) where
         };
       }
 
-  pub load-entry-ok : (w : List ℕ) → n ≤ 16 → EpochOk n w → EntryOk (loadDecryption n w p)
-  unfolding loadDecryption EntryOk
-  load-entry-ok w few h = go (eqb (getD w (decryptionAt n p) 0) 0) (eqb (getD w (decryptionAt n p) 0) 1)
+  pub load-entry-ok : (w : List ℕ) → n ≤ 16 → EpochOk n w → InstanceOk (loadEntry n w p)
+  unfolding loadEntry
+  load-entry-ok w few h = go (eqb (getD w (decryptionAt n p) 0) entryNone)
     where
-      go : (x y : Bool) → EntryOk (cond x missing (cond y (ongoing (loadInstance n w p)) (complete (getD w (plaintextAt n p) 0))))
-      go true y = tt
-      go false true = instance-ok w few h
-      go false false = field-below n w p 3 h (omega arith)
+      go : (x : Bool) → InstanceOk (cond x new (loadInstance n w p))
+      go true = new-ok
+      go false = instance-ok w few h
 
   shares-ok : (m i : ℕ) (s w : List ℕ) → i + m ≤ n → Below handles 16 s → EpochOk n w → EpochOk n (setShares n p m i s w)
   unfolding setShares

@@ -12,15 +12,15 @@ use Rattle.steps.specs.Answers.{Rec, Tape}
 use Rattle.steps.specs.Steps.{Entry, Item, faults, outputs}
 use Rattle.steps.specs.Taken.{orElse, isThere, isTrue, firstTaken, ofValue, ofDecision, onesFrom, firstDecrypted, thirteensIn}
 use Rattle.steps.proofs.Chains.{Good}
-use Rattle.subset.specs.Words.{epochLength}
+use Rattle.subset.specs.Words.{recordLength, epochLength}
 use Rattle.subset.proofs.After.{After}
 use Rattle.subset.proofs.Votes.{Voted}
 use Rattle.epoch.specs.declared.SubsetHandlingStrategy.{SubsetHandlingStrategy}
 use Rattle.epoch.specs.declared.MessageContent.{MessageContent}
 use Rattle.epoch.specs.declared.MessageContent.the-variants.{Broadcast, Agreement, DecryptionShare}
-use Rattle.epoch.specs.Words.{isAccepted, plaintextAt}
+use Rattle.epoch.specs.Words.{plaintextAt}
 use Rattle.epoch.specs.Epoch.{newEpoch, propose, handleMessageContent}
-use Rattle.epoch.specs.Batch.{isReady}
+use Rattle.epoch.specs.Batch.{isReady, isRead}
 
 -- what has been taken in an epoch: nothing yet
 abbrev pub nothing : ℕ → Option ℕ
@@ -62,7 +62,7 @@ module _ (Holds : NetworkInfo → SubsetHandlingStrategy → Bool → List ℕ �
   -- an epoch that is ready
   pub record Ready (net : NetworkInfo) (encrypted : Bool) (w : List ℕ) (v d t : ℕ → Option ℕ) : Type 0 where
     pub decided : (q : ℕ) → q < net .«num_nodes» → isThere (d q) ≡ true
-    pub accepted : (q : ℕ) → q < net .«num_nodes» → isAccepted w q ≡ isTrue (d q)
+    pub read : (q : ℕ) → q < net .«num_nodes» → isRead (recordLength (net .«num_nodes»)) w q ≡ isTrue (d q)
     pub known : (q : ℕ) → q < net .«num_nodes» → isTrue (d q) ≡ true → isThere (v q) ≡ true
     pub plaintext : (q : ℕ) → q < net .«num_nodes» → isTrue (d q) ≡ true → cond encrypted (t q) (v q) ≡ some (getD w (plaintextAt (net .«num_nodes») q) 0)
     pub enough : numCorrect net ≤ onesFrom d (net .«num_nodes») 0

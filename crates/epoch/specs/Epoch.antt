@@ -1,7 +1,7 @@
 -- An epoch over its words, after epoch_state.rs: a definition for each function, in its name.
 use Prim.Native.Nat.{ℕ, zero, suc, _+_, _-_}
 use mathlib.Core.List.{List, [], _∷_, _++_}
-use mathlib.Core.Bool.{Bool, true, false, cond}
+use mathlib.Core.Bool.{Bool, true, false, cond, _&&_, not}
 use mathlib.Core.Option.{Option, none, some}
 use lib.ListN.{getD, set, replicate}
 use lib.Dec.{eqb}
@@ -17,7 +17,7 @@ use Rattle.epoch.specs.declared.SubsetHandlingStrategy.{SubsetHandlingSt
 use Rattle.epoch.specs.declared.SubsetHandlingStrategy.the-variants.{Incremental, AllAtEnd}
 use Rattle.epoch.specs.declared.MessageContent.{MessageContent}
 use Rattle.epoch.specs.declared.MessageContent.the-variants.{Broadcast, Agreement, DecryptionShare}
-use Rattle.epoch.specs.Words.{isVacant, isComplete, countBits, isAccepted, accept, DecryptionState, missing, ongoing, complete, loadDecryption, storeDecryption}
+use Rattle.epoch.specs.Words.{isVacant, isComplete, countBits, isAccepted, accept, DecryptionState, missing, ongoing, complete, asks, decryptionAt, loadEntry, loadDecryption, storeDecryption}
 
 -- an epoch whose instances have just been built
 unfoldable pub newEpoch : ℕ → List ℕ
@@ -75,11 +75,12 @@ module _ (net : NetworkInfo) where
       })
       (λ _ w q. ends (going tt) w q)
 
-  -- the entry of proposer p is called, a new one where there is none; a complete one asks nothing
-  unfoldable pub callEntry : DecryptionState → ℕ → List ℕ → Tape → (ThresholdDecrypt → Tape → Run ThresholdDecrypt (Option ℕ)) → Run (List ℕ) (Unit {0})
-  callEntry missing p w tape call = processDecryption p w (call new tape)
-  callEntry (ongoing td) p w tape call = processDecryption p w (call td tape)
-  callEntry (complete plaintext) p w tape call = ends (going tt) w tape
+  -- the entry of proposer p is called, unless it asks nothing any more
+  unfoldable pub callEntry : ℕ → (ThresholdDecrypt → Tape → Run ThresholdDecrypt (Option ℕ)) → List ℕ → Tape → Run (List ℕ) (Unit {0})
+  callEntry p call w tape =
+      cond (asks (getD w (decryptionAt (net .«num_nodes») p) 0))
+      (processDecryption p w (call (loadEntry (net .«num_nodes») w p) tape))
+      (ends (going tt) w tape)
 
   -- `DecryptionState::set_ciphertext`; one that does not verify is fault 4
   unfoldable pub inputCiphertext : ℕ → ℕ → ThresholdDecrypt → Tape → Run ThresholdDecrypt (Option ℕ)
@@ -93,16 +94,14 @@ module _ (net : NetworkInfo) where
       heard (askAbout tape 8 p) w (λ a b q.
       cond (eqb a 0)
       (before (fault 3 p 0 ∷ []) (ends (going tt) w q))
-      (callEntry (loadDecryption (net .«num_nodes») w p) p w q (inputCiphertext p value)))
+      (callEntry p (inputCiphertext p value) w q))
 
   -- a share counts while the subset is not done, and after that for an accepted proposer only; else it is fault 2 of its sender
   unfoldable pub handleDecryptionShare : ℕ → ℕ → ℕ → List ℕ → Tape → Run (List ℕ) (Unit {0})
   handleDecryptionShare sender p share w tape =
-      cond (isComplete w)
-      (cond (isAccepted w p)
-      (callEntry (loadDecryption (net .«num_nodes») w p) p w tape (handleShare net p sender share))
-      (before (fault 2 sender 0 ∷ []) (ends (going tt) w tape)))
-      (callEntry (loadDecryption (net .«num_nodes») w p) p w tape (handleShare net p sender share))
+      cond (isComplete w && not (isAccepted w p))
+      (before (fault 2 sender 0 ∷ []) (ends (going tt) w tape))
+      (callEntry p (handleShare net p sender share) w tape)
 
   -- proposer p's end of `Done`: its proposal is dropped, and "shares for non-accepted proposers become fault 2"
   unfoldable pub finishAt : ℕ → List ℕ → Tape → Run (List ℕ) (Unit {0})

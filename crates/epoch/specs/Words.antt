@@ -1,12 +1,12 @@
 -- The words of one epoch, as far as decryption uses them, and the range rule of all of them (docs/STATE.md).
 use Prim.Native.Nat.{ℕ, zero, suc, _+_, _*_, _/_, _%_, _^_, _-_}
 use mathlib.Core.List.{List, [], _∷_, _++_}
-use mathlib.Core.Bool.{Bool, true, false, cond, _&&_, not}
+use mathlib.Core.Bool.{Bool, true, false, cond, _&&_, _||_, not}
 use lib.ListN.{getD, set, replicate}
 use lib.Dec.{eqb, leb, ltb}
 use Rattle.decryption.specs.declared.ThresholdDecrypt.{ThresholdDecrypt}
 use Rattle.decryption.specs.Decrypt.{new}
-use Rattle.subset.specs.Words.{recordAt, statusAt, decidedAt, acceptedAt, countAt, proposalAt, valueAt, arrivalAt, epochLength}
+use Rattle.subset.specs.Words.{fieldAt, recordAt, statusAt, decidedAt, acceptedAt, countAt, proposalAt, valueAt, arrivalAt, epochLength}
 
 -- status: 0 there is no such epoch, 1 `SubsetState::Ongoing`, 2 `SubsetState::Complete`
 abbrev pub isVacant : List ℕ → Bool
@@ -39,11 +39,47 @@ pub data DecryptionState : Type 0 where
   ongoing : ThresholdDecrypt → DecryptionState
   complete : ℕ → DecryptionState
 
+-- its tag: no entry, `DecryptionState::Ongoing`, `DecryptionState::Complete`
+abbrev pub entryNone : ℕ
+entryNone = 0
+
+abbrev pub entryOngoing : ℕ
+entryOngoing = 1
+
+abbrev pub entryComplete : ℕ
+entryComplete = 2
+
+-- what the tag means: a share or a ciphertext that comes is asked about outside
+unfoldable pub asks : ℕ → Bool
+asks tag = eqb tag entryNone || eqb tag entryOngoing
+
+-- the epoch no longer waits for it
+unfoldable pub isSettled : ℕ → Bool
+isSettled tag = eqb tag entryComplete
+
+-- it has a plaintext, and a batch asks whether that reads (kind 13)
+unfoldable pub isOpen : ℕ → Bool
+isOpen tag = eqb tag entryComplete
+
+-- its words of a record
+abbrev pub decryptionField : ℕ
+decryptionField = 2
+
+abbrev pub plaintextField : ℕ
+plaintextField = 3
+
+-- tag and plaintext where a record has `size` words
+abbrev pub decryptionIn : ℕ → List ℕ → ℕ → ℕ
+decryptionIn size w p = getD w (fieldAt size p decryptionField) 0
+
+abbrev pub plaintextIn : ℕ → List ℕ → ℕ → ℕ
+plaintextIn size w p = getD w (fieldAt size p plaintextField) 0
+
 abbrev pub decryptionAt : ℕ → ℕ → ℕ
-decryptionAt n p = recordAt n p 2
+decryptionAt n p = recordAt n p decryptionField
 
 abbrev pub plaintextAt : ℕ → ℕ → ℕ
-plaintextAt n p = recordAt n p 3
+plaintextAt n p = recordAt n p plaintextField
 
 abbrev pub ciphertextAt : ℕ → ℕ → ℕ
 ciphertextAt n p = recordAt n p 4
@@ -71,6 +107,10 @@ loadInstance n w p =
       «had_input» = not (eqb (getD w (hadInputAt n p) 0) 0);
       terminated = not (eqb (getD w (terminatedAt n p) 0) 0);
     }
+
+-- the instance that a share or a ciphertext comes to: a new one where there is no entry
+unfoldable pub loadEntry : ℕ → List ℕ → ℕ → ThresholdDecrypt
+loadEntry n w p = cond (eqb (getD w (decryptionAt n p) 0) entryNone) new (loadInstance n w p)
 
 unfoldable pub loadDecryption : ℕ → List ℕ → ℕ → DecryptionState
 loadDecryption n w p =

@@ -27,19 +27,32 @@ acceptedAt = 2
 abbrev pub countAt : ℕ
 countAt = 3
 
--- word j of proposer p's record
+-- word j of proposer p's record, where a record has `size` words
+abbrev pub fieldAt : ℕ → ℕ → ℕ → ℕ
+fieldAt size p j = 16 + p * size + j
+
 abbrev pub recordAt : ℕ → ℕ → ℕ → ℕ
-recordAt n p j = 16 + p * recordLength n + j
+recordAt n p j = fieldAt (recordLength n) p j
+
+-- the subset's words of a record
+abbrev pub proposalField : ℕ
+proposalField = 0
+
+abbrev pub valueField : ℕ
+valueField = 1
+
+abbrev pub arrivalField : ℕ
+arrivalField = 7
 
 abbrev pub proposalAt : ℕ → ℕ → ℕ
-proposalAt n p = recordAt n p 0
+proposalAt n p = recordAt n p proposalField
 
 abbrev pub valueAt : ℕ → ℕ → ℕ
-valueAt n p = recordAt n p 1
+valueAt n p = recordAt n p valueField
 
 -- who is i-th in the list of contributions
 abbrev pub arrivalAt : ℕ → ℕ → ℕ
-arrivalAt n i = recordAt n i 7
+arrivalAt n i = recordAt n i arrivalField
 
 -- a proposal in its two words
 unfoldable pub proposalOf : ℕ → ℕ → ProposalState
