@@ -6,3 +6,4 @@ pub mod Messages
 pub mod Reading
 pub mod Errors
 pub mod Ranges
+pub mod Bounded

@@ -13,3 +13,4 @@ pub mod Finishing
 pub mod Holds
 pub mod Laws
 pub mod Batches
+pub mod Bounded

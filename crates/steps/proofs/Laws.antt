@@ -28,7 +28,7 @@ pub on-record : (t : List ℕ) (i : ℕ) → 0 < i → i < length t / 4 → onRe
 unfolding onRecord
 on-record t i p q = simp (lt-ltb 0 i p, lt-ltb i (length t / 4) q)
 
-on-bounds : (t : List ℕ) (i : ℕ) → onRecord t i ≡ true → (0 < i) × (i < length t / 4)
+pub on-bounds : (t : List ℕ) (i : ℕ) → onRecord t i ≡ true → (0 < i) × (i < length t / 4)
 unfolding onRecord
 on-bounds t i e = let h = and-true _ _ e in (ltb-true 0 i (h .0), ltb-true i (length t / 4) (h .1))
 

@@ -11,3 +11,4 @@ pub mod Finished
 pub mod ReadBack
 pub mod Read13
 pub mod Ranges
+pub mod Bounded

@@ -10,3 +10,4 @@ pub mod Rule
 pub mod Worked
 pub mod Ranges
 pub mod Votes
+pub mod Bounded

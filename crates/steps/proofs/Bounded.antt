@@ -1,0 +1,173 @@
+-- HOW MANY ENTRIES A RUN WRITES: at most one for each record that it reads, and some more that its definition allows. Assumes nothing.
+use Prim.Native.Nat.{ℕ, zero, suc, _+_, _*_, _/_, _≤_, _<_}
+use mathlib.Core.Path.{_≡_, refl}
+use mathlib.Core.Logic.{_⊎_, inl, inr}
+use mathlib.Core.List.{List, [], _∷_}
+use mathlib.Core.Bool.{Bool, true, false, cond, _&&_, false≢true}
+use native.Mathlib.Omega.{arith}
+use lib.ListN.{length, getD, length-append}
+use lib.Dec.{eqb, ltb}
+use borrow.Author.Tests.{leb-true, ltb-true, ltb-false}
+use Rattle.steps.specs.declared.reader.Answer.{Answer}
+use Rattle.steps.specs.declared.reader.Answer.the-variants.{Got, Refused}
+use Rattle.steps.specs.declared.reader.Output.{Output}
+use Rattle.steps.specs.declared.reader.Output.the-variants.{Missing}
+use Rattle.steps.specs.Table.{shapeOk, tableOk}
+use Rattle.steps.specs.Answers.{Rec, Tape, tape, link, recAt, onRecord, walk, chain, tapeOf, Asked, askFor, ask, askAbout}
+use Rattle.steps.specs.Steps.{Entry, message, fault}
+use Rattle.steps.specs.Runs.{Verdict, going, refused, failed, Run, ends, before, onwardAs, onward, heardAs, heard, inside}
+use Rattle.steps.specs.Parts.{isPart, partEntries, lastOutput, Told, partsFrom, readParts}
+use Rattle.steps.proofs.Laws.{and-true, on-bounds, link-up, link-end}
+use Rattle.steps.proofs.Parts.{parts-on, parts-off}
+use Rattle.steps.proofs.Ranges.{by-test}
+
+-- a run from tape p that writes at most one entry for each record it reads, and `more` besides
+pub record Bounded {S A : Type 0} (more : ℕ) (p : Tape) (r : Run S A) : Type 0 where
+  pub short : length (r .log) + length (r .tape .rest) ≤ length (p .rest) + more
+
+module _ {S A : Type 0} where
+  pub bounded-ends : {more : ℕ} {p : Tape} {s : S} {v : Verdict A} → Bounded more p (ends v s p)
+  bounded-ends = record { short = omega arith }
+
+  pub bounded-wider : (m more : ℕ) (p : Tape) (r : Run S A) → m ≤ more → Bounded m p r → Bounded more p r
+  bounded-wider m more p r l b = record { short = omega (arith, b .short) }
+
+  -- entries before a run's own
+  pub bounded-before : (l : List Entry) (m more : ℕ) (p : Tape) (r : Run S A) → length l + m ≤ more → Bounded m p r → Bounded more p (before l r)
+  bounded-before l m more p r h b = record { short = omega (arith, b .short, length-append l (r .log)) }
+
+  pub bounded-one : (e : Entry) (more : ℕ) (p : Tape) (r : Run S A) → Bounded more p r → Bounded (more + 1) p (before (e ∷ []) r)
+  bounded-one e more p r b = bounded-before (e ∷ []) more (more + 1) p r (omega arith) b
+
+  pub bounded-cond : (x : Bool) (more : ℕ) (p : Tape) (r s : Run S A) → Bounded more p r → Bounded more p s → Bounded more p (cond x r s)
+  bounded-cond true more p r s f g = f
+  bounded-cond false more p r s f g = g
+
+  -- after an answer one entry more is allowed
+  heard-bounded : (more : ℕ) (p : Tape) (q : Asked) (s : S) (k : ℕ → ℕ → Tape → Run S A)
+      → ((a b : ℕ) → q .answer ≡ Got a b → length (q .tape .rest) + 1 ≤ length (p .rest)) → length (q .tape .rest) ≤ length (p .rest)
+      → ((a b : ℕ) (u : Tape) → Bounded (more + 1) u (k a b u)) → Bounded more p (heard q s k)
+  unfolding heard heardAs
+  heard-bounded more p q s k g l f = go (q .answer) refl
+    where
+      go : (x : Answer) → q .answer ≡ x → Bounded more p (heardAs x s (q .tape) k)
+      go (Got a b) e = record { short = omega (arith, f a b (q .tape) .short, g a b e) }
+      go Refused e = record { short = omega arith }
+
+-- what asking leaves
+record Fewer (p : Tape) (q : Asked) : Type 0 where
+  got : (a b : ℕ) → q .answer ≡ Got a b → length (q .tape .rest) + 1 ≤ length (p .rest)
+  left : length (q .tape .rest) ≤ length (p .rest)
+
+for-fewer : (want : Rec → Bool) (p : Tape) → Fewer p (askFor want p (p .rest))
+unfolding askFor
+for-fewer want p = go (p .rest) refl
+  where
+    none : Fewer p (record { answer = Refused; tape = p })
+    none = record { got = λ a b e. let z : _≡_ {A = ℕ} 0 1 = cc in absurd (omega arith); left = omega arith }
+
+    go : (l : List Rec) → p .rest ≡ l → Fewer p (askFor want p l)
+    go [] e = none
+    go (r ∷ rs) e = by (want r)
+      where
+        by : (x : Bool) → Fewer p (cond x (record { answer = Got (r .a) (r .b); tape = tape (r .next) rs }) (record { answer = Refused; tape = p }))
+        by true = record { got = λ a b _. rw e (omega arith); left = rw e (omega arith) }
+        by false = none
+
+module _ {S A : Type 0} (more : ℕ) (p : Tape) where
+  pub bounded-ask : (kind : ℕ) (s : S) (k : ℕ → ℕ → Tape → Run S A) → ((a b : ℕ) (q : Tape) → Bounded (more + 1) q (k a b q)) → Bounded more p (heard (ask p kind) s k)
+  unfolding ask
+  bounded-ask kind s k f = let u = for-fewer (λ r. eqb (r .kind) kind) p in heard-bounded more p _ s k (u .got) (u .left) f
+
+  pub bounded-about : (kind who : ℕ) (s : S) (k : ℕ → ℕ → Tape → Run S A) → ((a b : ℕ) (q : Tape) → Bounded (more + 1) q (k a b q))
+      → Bounded more p (heard (askAbout p kind who) s k)
+  unfolding askAbout
+  bounded-about kind who s k f = let u = for-fewer (λ r. eqb (r .kind) kind && eqb (r .b) who) p in heard-bounded more p _ s k (u .got) (u .left) f
+
+-- Rust's `?`: what both parts may write. The second is asked for only where the first goes on
+pub bounded-then : {S A B : Type 0} (m more : ℕ) (p : Tape) (r : Run S A) (k : A → S → Tape → Run S B) → Bounded m p r
+    → ((a : A) → r .verdict ≡ going a → Bounded more (r .tape) (k a (r .state) (r .tape))) → Bounded (m + more) p (onward r k)
+unfolding onward onwardAs
+bounded-then {A = A} m more p r k h f = go (r .verdict) refl
+  where
+    go : (v : Verdict A) → r .verdict ≡ v → Bounded (m + more) p (onwardAs v r k)
+    go (going a) e =
+        let u = k a (r .state) (r .tape) in
+        record { short = omega (arith, h .short, f a e .short, length-append (r .log) (u .log)) }
+    go refused e = record { short = omega (arith, h .short) }
+    go (failed n) e = record { short = omega (arith, h .short) }
+
+-- where the first part writes nothing besides
+pub bounded-onward : {S A B : Type 0} (more : ℕ) (p : Tape) (r : Run S A) (k : A → S → Tape → Run S B) → Bounded 0 p r
+    → ((a : A) (s : S) (q : Tape) → Bounded more q (k a s q)) → Bounded more p (onward r k)
+bounded-onward more p r k h f = bounded-wider (0 + more) more p _ (omega arith) (bounded-then 0 more p r k h (λ a _. f a (r .state) (r .tape)))
+
+pub bounded-inside : {S T A : Type 0} {more : ℕ} {p : Tape} (put : T → S) (r : Run T A) → Bounded more p r → Bounded more p (inside put r)
+bounded-inside put r b = record { short = b .short }
+
+-- THE PARTS of an answer: a part is one entry or none
+part-one : (content proposer kind a b : ℕ) → length (partEntries content proposer kind a b) ≤ 1
+unfolding partEntries
+part-one content proposer kind a b = go (eqb kind 16) (eqb kind 17)
+  where
+    go : (x y : Bool) → length (cond x (message content proposer b ∷ []) (cond y (fault (content + 7) a b ∷ []) [])) ≤ 1
+    go true y = omega arith
+    go false true = omega arith
+    go false false = omega arith
+
+module _ (content proposer : ℕ) where
+  parts-few : (o : Output) (i : ℕ) (l : List Rec) → length (partsFrom content proposer o i l .log) + length (partsFrom content proposer o i l .tape .rest) ≤ length l
+  unfolding partsFrom
+  parts-few o i [] = omega arith
+  parts-few o i (r ∷ rs) = go (isPart (r .kind)) refl (parts-few (lastOutput o (r .kind) (r .b)) (r .next) rs)
+    where
+      later : Told
+      later = partsFrom content proposer (lastOutput o (r .kind) (r .b)) (r .next) rs
+
+      go : (x : Bool) → isPart (r .kind) ≡ x → length (later .log) + length (later .tape .rest) ≤ length rs
+          → length (partsFrom content proposer o i (r ∷ rs) .log) + length (partsFrom content proposer o i (r ∷ rs) .tape .rest) ≤ length (r ∷ rs)
+      go true e h =
+          rw (parts-on content proposer o i r rs e)
+          (omega (arith, length-append (partEntries content proposer (r .kind) (r .a) (r .b)) (later .log), part-one content proposer (r .kind) (r .a) (r .b)))
+      go false e h = rw (parts-off content proposer o i r rs e) (omega arith)
+
+  pub bounded-parts : {S : Type 0} (s : S) (p : Tape) → Bounded 0 p (readParts content proposer s p)
+  bounded-parts s p = record { short = omega (arith, parts-few Missing (p .place) (p .rest)) }
+
+-- THE CHAIN OF A TABLE. Its indexes rise from above 0, so that it has fewer records than the table
+walk-short : (n : ℕ) (t : List ℕ) (i j : ℕ) → (i ≡ 0) ⊎ (j < i) → j < length t / 4 → length (walk n t i) + suc j ≤ length t / 4
+unfolding walk
+walk-short zero t i j above h = omega arith
+walk-short (suc n) t i j above h = go (onRecord t i) refl above (walk-short n t (link t i) i (rises (ltb i (getD t (i * 4) 0)) refl))
+  where
+    rises : (x : Bool) → ltb i (getD t (i * 4) 0) ≡ x → (link t i ≡ 0) ⊎ (i < link t i)
+    rises true e = let l = ltb-true _ _ e in inr (rw (link-up t i l) l)
+    rises false e = inl (link-end t i (ltb-false _ _ e))
+
+    go : (x : Bool) → onRecord t i ≡ x → (i ≡ 0) ⊎ (j < i) → (i < length t / 4 → length (walk n t (link t i)) + suc i ≤ length t / 4)
+        → length {A = Rec} (elim x [ true ↦ recAt t i ∷ walk n t (link t i) | false ↦ [] ]) + suc j ≤ length t / 4
+    go true e (inl z) f = let b = on-bounds t i e in absurd (omega arith)
+    go true e (inr l) f = let b = on-bounds t i e in omega (arith, f (b .1))
+    go false e above f = omega arith
+
+-- "4 to 4,096 words": a chain has at most 1,023 records
+abbrev pub chainLimit : ℕ
+chainLimit = 1023
+
+pub table-short : (n : ℕ) (t : List ℕ) → tableOk n t ≡ true → length (tapeOf t .rest) ≤ chainLimit
+unfolding tableOk shapeOk chain
+table-short n t e =
+    by-test (shapeOk t) _ _ e
+    (λ s _. by-test (ltb (length t) 4) _ _ s (λ _ s. absurd (false≢true s)) (λ l s.
+    let few : length t ≤ 4096 = leb-true _ _ (and-true _ _ (and-true _ _ (and-true _ _ (and-true _ _ s .0) .0) .0) .0) in
+    let some : 4 ≤ length t = ltb-false _ _ l in
+    omega (arith, walk-short (length t) t (getD t 0 0) 0 (first (getD t 0 0)) (omega arith))))
+    (λ _ s. absurd (false≢true s))
+  where
+    first : (i : ℕ) → (i ≡ 0) ⊎ (0 < i)
+    first zero = inl refl
+    first (suc i) = inr (omega arith)
+
+-- A RUN over a table that is not malformed, with what its definition allows besides
+pub table-bounded : {S A : Type 0} (n more : ℕ) (t : List ℕ) (r : Run S A) → tableOk n t ≡ true → Bounded more (tapeOf t) r → length (r .log) ≤ chainLimit + more
+table-bounded n more t r e b = omega (arith, b .short, table-short n t e)
