@@ -18,5 +18,6 @@ pub mod Passes
 pub mod OneRun
 pub mod TwoRuns
 pub mod Agreement
+pub mod Entries
 pub mod Rule
 pub mod Pair
