@@ -18,6 +18,7 @@ pub mod Passes
 pub mod OneRun
 pub mod TwoRuns
 pub mod Agreement
+pub mod Entries
 pub mod Rule
 pub mod Tests
 pub mod Pair

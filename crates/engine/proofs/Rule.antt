@@ -1,10 +1,10 @@
--- THE PAPER'S RULE over one run without a failing call, `engine-rule`: complete epochs, accepted proposers, epochs handed out, and votes. Assumes nothing.
+-- THE PAPER'S RULE over one run without a failing call, `engine-rule`: complete epochs, accepted proposers, what is decrypted, epochs handed out with their entries, and votes. Assumes nothing.
 use Prim.Native.Nat.{ℕ, zero, suc, _+_, _≤_, _<_}
 use native.Mathlib.Omega.{arith}
-use mathlib.Core.Path.{_≡_, refl, sym, subst}
+use mathlib.Core.Path.{_≡_, refl, sym, ap, _∙_, subst, fun-ext}
 use mathlib.Core.Logic.{_⊎_, inl, inr}
 use mathlib.Core.List.{List, _∷_, _++_, List·Memᴰ}
-use mathlib.Core.Bool.{Bool, true, false, _||_, not}
+use mathlib.Core.Bool.{Bool, true, false, cond, _||_, not}
 use mathlib.Core.Option.{Option, none}
 use lib.ListN.{getD}
 use borrow.Author.Tests.{eqb-true, le-leb}
@@ -15,19 +15,22 @@ use Rattle.subset.specs.Words.{statusAt}
 use Rattle.subset.specs.Rule.{settledFrom, isOver}
 use Rattle.subset.proofs.Rule.{blank-over}
 use Rattle.epoch.specs.declared.SubsetHandlingStrategy.{SubsetHandlingStrategy}
-use Rattle.epoch.specs.Words.{isComplete, isAccepted}
+use Rattle.epoch.specs.Words.{isComplete, isAccepted, loadDecryption}
 use Rattle.epoch.proofs.Holds.{Going, Done, Holds}
 use Rattle.epoch.proofs.Laws.{epoch-laws}
-use Rattle.engine.specs.State.{ahead, currentEpoch, netOf, epochWords}
+use Rattle.engine.specs.Schedule.{scheduleOf, useOnEpoch}
+use Rattle.engine.specs.State.{ahead, currentEpoch, netOf, encryptedIn, epochWords}
 use Rattle.engine.specs.Create.{Numbers, created, createState}
-use Rattle.engine.specs.History.{Call, turns, noneFails, Event, history, valueTaken, decisionTaken, decrypted, Handed, handed}
+use Rattle.engine.specs.History.{Call, turns, noneFails, Event, history, valueTaken, decisionTaken, decrypted, plaintext, Handed, handed}
 use Rattle.engine.specs.Claim.{Made, Sound, historyOf, encryptedOf}
+use Rattle.engine.specs.Outputs.{pairsIn, pairsRead, plaintextOf}
 use Rattle.engine.specs.Rule.{stateAfterAll, endOf, netIn, Votes, EngineRule}
 use Rattle.engine.proofs.Created.{create-passes}
+use Rattle.engine.proofs.Entries.{entries-given, slot-decrypted}
 use Rattle.engine.proofs.Handout.{Tk, InAll, all-at, all-handed}
 use Rattle.engine.proofs.Invariant.{Slot, vacant, lives, Sim}
 use Rattle.engine.proofs.OneRun.{AllVoted, voted-at, run-all}
-use Rattle.engine.proofs.TwoRuns.{network-of, state-is, started, run-dealt}
+use Rattle.engine.proofs.TwoRuns.{network-of, state-is, encrypted-as, started, run-dealt}
 
 -- WHAT A RUN'S LAST WORDS KNOW
 abbrev untaken : Tk
@@ -40,6 +43,7 @@ record Known (w₀ : List ℕ) (c : Numbers) (cs : List Call) : Type 0 where
   network : Network (netOf w₀)
   nodes : netOf w₀ .«num_nodes» ≡ c .nodes
   faulty : netOf w₀ .«num_faulty» ≡ c .faulty
+  schedule : encryptedIn w₀ ≡ useOnEpoch (scheduleOf (c .schedule) (c .first) (c .second))
 
 known : (m : Made) → Sound m → Known (createState (m .numbers) (m .words)) (m .numbers) (m .calls)
 unfolding orElse netOf created
@@ -55,6 +59,7 @@ known m s =
       network = network;
       nodes = refl;
       faulty = refl;
+      schedule = encrypted-as (m .numbers);
     })
 
 -- ONE EPOCH
@@ -93,6 +98,17 @@ accepted-ok m s e p l u c below =
     slot-accepted (netIn m) _ _ (epochWords (endOf m) e) (valueTaken (historyOf m) e) (decisionTaken (historyOf m) e) (decrypted (historyOf m) e)
     (k .sim .slots e (omega (arith, k .sim .current)) (omega (arith, k .sim .current, k .sim .shaped .ahead))) c p below
 
+-- DECRYPTED CONTRIBUTIONS
+pub decrypted-ok : (m : Made) → Sound m → (e p : ℕ) → currentEpoch (endOf m) ≤ e → e ≤ currentEpoch (endOf m) + ahead (endOf m)
+    → isComplete (epochWords (endOf m) e) ≡ true → p < netIn m .«num_nodes»
+    → plaintextOf (loadDecryption (netIn m .«num_nodes») (epochWords (endOf m) e) p) ≡ cond (isTrue (decisionTaken (historyOf m) e p)) (plaintext (encryptedOf m) (historyOf m) e p) none
+unfolding plaintext
+decrypted-ok m s e p l u c below =
+    let k = known m s in
+    rw (← k .schedule)
+    (slot-decrypted (netIn m) _ _ (epochWords (endOf m) e) (valueTaken (historyOf m) e) (decisionTaken (historyOf m) e) (decrypted (historyOf m) e)
+    (k .sim .slots e (omega (arith, k .sim .current)) (omega (arith, k .sim .current, k .sim .shaped .ahead))) c p below)
+
 -- EPOCHS HANDED OUT
 module _ (v d : ℕ → Option ℕ) where
   settled-all : (m p : ℕ) → ((q : ℕ) → q < p + m → isThere (d q) ≡ true) → ((q : ℕ) → q < p + m → isTrue (d q) ≡ true → isThere (v q) ≡ true) → settledFrom v d m p ≡ true
@@ -111,16 +127,37 @@ module _ (v d : ℕ → Option ℕ) where
   over-all net f g h =
       rw (settled-all (net .«num_nodes») 0 (λ q l. f q (omega arith)) (λ q l. g q (omega arith)), le-leb (numCorrect net) (onesFrom d (net .«num_nodes») 0) h)
 
+-- the plaintext in a plain epoch
+is-value : (encrypted : ℕ → Bool) (h : List Event) (e p : ℕ) → encrypted e ≡ false → plaintext encrypted h e p ≡ valueTaken h e p
+unfolding plaintext
+is-value encrypted h e p i = rw i
+
+-- a batch in the whole history
+handout : (m : Made) → Sound m → (x : Handed) → List·Memᴰ x (handed (m .numbers .nodes) (encryptedOf m) (historyOf m))
+    → InAll (m .numbers .nodes) (m .numbers .faulty) (encryptedOf m) (historyOf m) (x .batch) (x .thirteens)
+handout m s x i =
+    let n = m .numbers .nodes in
+    let f = m .numbers .faulty in
+    let h = historyOf m in
+    all-at (InAll n f (encryptedOf m) h) (handed n (encryptedOf m) h) x (all-handed n f (encryptedOf m) h h (run-dealt Holds epoch-laws m s)) i
+
 pub handed-ok : (m : Made) → Sound m → (x : Handed) → List·Memᴰ x (handed (m .numbers .nodes) (encryptedOf m) (historyOf m))
     → isOver (netIn m) (valueTaken (historyOf m) (x .batch .epoch)) (decisionTaken (historyOf m) (x .batch .epoch)) ≡ true
 handed-ok m s x i =
     let k = known m s in
-    let n = m .numbers .nodes in
-    let f = m .numbers .faulty in
     let h = historyOf m in
-    let out = all-at (InAll n f (encryptedOf m) h) (handed n (encryptedOf m) h) x (all-handed n f (encryptedOf m) h h (run-dealt Holds epoch-laws m s)) i in
+    let out = handout m s x i in
     over-all (valueTaken h (x .batch .epoch)) (decisionTaken h (x .batch .epoch)) (netIn m)
     (λ q l. out .decided q (omega (arith, k .nodes))) (λ q l. out .known q (omega (arith, k .nodes))) (rw (k .nodes, k .faulty) (out .enough))
+
+-- THE ENTRIES OF A BATCH
+pub entries-ok : (m : Made) → Sound m → (x : Handed) → List·Memᴰ x (handed (m .numbers .nodes) (encryptedOf m) (historyOf m))
+    → pairsIn (x .batch .entries) ≡ pairsRead (plaintext (encryptedOf m) (historyOf m) (x .batch .epoch)) (x .thirteens)
+entries-ok m s x i = entries-given (m .numbers .nodes) (m .numbers .faulty) (encryptedOf m) (historyOf m) x (handout m s x i)
+
+pub plain-ok : (m : Made) → Sound m → (x : Handed) → List·Memᴰ x (handed (m .numbers .nodes) (encryptedOf m) (historyOf m))
+    → encryptedOf m (x .batch .epoch) ≡ false → pairsIn (x .batch .entries) ≡ pairsRead (valueTaken (historyOf m) (x .batch .epoch)) (x .thirteens)
+plain-ok m s x i e = entries-ok m s x i ∙ ap (λ (t : ℕ → Option ℕ). pairsRead t (x .thirteens)) (fun-ext (λ p. is-value (encryptedOf m) (historyOf m) (x .batch .epoch) p e))
 
 -- VOTES
 pub votes-ok : (m : Made) → Sound m → (h : List Event) (x : Event) (l : List Event) → historyOf m ≡ h ++ (x ∷ l) → Votes (netIn m) h x
@@ -131,4 +168,12 @@ votes-ok m s h x l e =
 
 -- THE RULE
 pub engine-rule : EngineRule
-engine-rule m s = record { votes = votes-ok m s; complete = complete-ok m s; accepted = accepted-ok m s; handedOut = handed-ok m s }
+engine-rule m s = record {
+  votes = votes-ok m s;
+  complete = complete-ok m s;
+  accepted = accepted-ok m s;
+  decrypted = decrypted-ok m s;
+  handedOut = handed-ok m s;
+  entries = entries-ok m s;
+  plainEntries = plain-ok m s;
+}

@@ -69,7 +69,7 @@ schedule-same k a b = go (eqb k 0) refl (eqb k 1) refl (eqb k 2) refl
         let r : k ≡ 2 → ⊥ = eqb-false k 2 l in
         rw (lt-leb k 1 (omega arith), lt-leb k 2 (omega arith))
 
-encrypted-as : (c : Numbers) → encryptedIn (created c) ≡ useOnEpoch (scheduleOf (c .schedule) (c .first) (c .second))
+pub encrypted-as : (c : Numbers) → encryptedIn (created c) ≡ useOnEpoch (scheduleOf (c .schedule) (c .first) (c .second))
 unfolding encryptedIn created
 encrypted-as c = fun-ext (λ e. ap (λ s. useOnEpoch s e) (schedule-same (c .schedule) (c .first) (c .second)))
 

@@ -6,6 +6,7 @@ pub mod Create
 pub mod Laws
 pub mod History
 pub mod Claim
+pub mod Outputs
 pub mod Rule
 pub mod Opened
 pub mod Cases

@@ -6,6 +6,7 @@ use Rattle.engine.specs.HoneyBadger
 use Rattle.engine.specs.Calls
 use Rattle.engine.specs.Create
 use Rattle.engine.specs.History
+use Rattle.engine.specs.Outputs
 
 unfoldable pub opened : Unit {0}
 unfolding EpochOpened.opened
@@ -24,4 +25,5 @@ unfolding EpochOpened.opened
     History.wantedIn History.dealt History.handedOf History.namesOf History.thirteensOf History.unreadableIn
     History.proposersIn History.unreadableOf History.readingOf History.valueOf History.readingsAt History.readingsIn
     History.readingsOf13 History.readingsOfBatches History.readingsOfCalls
+    Outputs.pairsIn Outputs.pairsRead Outputs.plaintextOf Outputs.timesAskedIn
 opened = tt

@@ -3,18 +3,19 @@
 use Prim.Native.Nat.{ℕ, _+_, _≤_, _<_}
 use mathlib.Core.Path.{_≡_}
 use mathlib.Core.List.{List, [], _∷_, _++_, List·Memᴰ}
-use mathlib.Core.Bool.{Bool, true}
+use mathlib.Core.Bool.{Bool, true, false, cond}
 use mathlib.Core.Option.{Option, none, some}
 use Rattle.steps.specs.declared.network_info.NetworkInfo.{NetworkInfo}
 use Rattle.steps.specs.Network.{numCorrect}
 use Rattle.steps.specs.Table.{within}
 use Rattle.steps.specs.Taken.{orElse, isTrue, firstTaken, ofValue, asked, onesFrom}
 use Rattle.subset.specs.Rule.{isOver}
-use Rattle.epoch.specs.Words.{isComplete, isAccepted}
+use Rattle.epoch.specs.Words.{isComplete, isAccepted, loadDecryption}
 use Rattle.engine.specs.State.{nodes, ahead, currentEpoch, netOf, epochWords, stateOk}
 use Rattle.engine.specs.Create.{Numbers, createReply, createState}
-use Rattle.engine.specs.History.{Call, stateAfter, Event, valueTaken, decisionTaken, Handed, handed}
+use Rattle.engine.specs.History.{Call, stateAfter, Event, valueTaken, decisionTaken, plaintext, Handed, handed}
 use Rattle.engine.specs.Claim.{Made, Sound, historyOf, encryptedOf}
+use Rattle.engine.specs.Outputs.{pairsIn, pairsRead, plaintextOf}
 
 -- the state that a list of calls leaves
 unfoldable pub stateAfterAll : List ℕ → List Call → List ℕ
@@ -49,9 +50,23 @@ pub record PaperRule (m : Made) : Type 0 where
   pub accepted : (e p : ℕ) → currentEpoch (endOf m) ≤ e → e ≤ currentEpoch (endOf m) + ahead (endOf m)
       → isComplete (epochWords (endOf m) e) ≡ true → p < netIn m .«num_nodes»
       → isAccepted (epochWords (endOf m) e) p ≡ isTrue (decisionTaken (historyOf m) e p)
+  -- "those pairs", with their values: a proposer decided 1 is decrypted with the plaintext that the history gives, which in a plain epoch "is
+  -- the value itself", and where there is none it is not decrypted; no other proposer is
+  pub decrypted : (e p : ℕ) → currentEpoch (endOf m) ≤ e → e ≤ currentEpoch (endOf m) + ahead (endOf m)
+      → isComplete (epochWords (endOf m) e) ≡ true → p < netIn m .«num_nodes»
+      → plaintextOf (loadDecryption (netIn m .«num_nodes») (epochWords (endOf m) e) p)
+      ≡ cond (isTrue (decisionTaken (historyOf m) e p)) (plaintext (encryptedOf m) (historyOf m) e p) none
   -- and for every epoch that was handed out
   pub handedOut : (x : Handed) → List·Memᴰ x (handed (m .numbers .nodes) (encryptedOf m) (historyOf m))
       → isOver (netIn m) (valueTaken (historyOf m) (x .batch .epoch)) (decisionTaken (historyOf m) (x .batch .epoch)) ≡ true
+  -- "the output is those pairs": a batch has an entry for each of its 13s that reads, in their order, the proposer and the plaintext that the
+  -- history gives. Its 13s name the proposers decided 1 (`Exact` in Claim.antt)
+  pub entries : (x : Handed) → List·Memᴰ x (handed (m .numbers .nodes) (encryptedOf m) (historyOf m))
+      → pairsIn (x .batch .entries) ≡ pairsRead (plaintext (encryptedOf m) (historyOf m) (x .batch .epoch)) (x .thirteens)
+  -- "The plaintext is the value itself where the epoch is not encrypted": in a plain epoch the entries are proposers and values taken
+  pub plainEntries : (x : Handed) → List·Memᴰ x (handed (m .numbers .nodes) (encryptedOf m) (historyOf m))
+      → encryptedOf m (x .batch .epoch) ≡ false
+      → pairsIn (x .batch .entries) ≡ pairsRead (valueTaken (historyOf m) (x .batch .epoch)) (x .thirteens)
 
 abbrev pub EngineRule : Type 0
 EngineRule = (m : Made) → Sound m → PaperRule m

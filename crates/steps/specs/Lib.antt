@@ -6,5 +6,6 @@ pub mod Steps
 pub mod Runs
 pub mod Parts
 pub mod Taken
+pub mod Times
 pub mod Batches
 pub mod Opened

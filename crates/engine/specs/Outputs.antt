@@ -1,0 +1,39 @@
+-- What the paper's rule (Rule.antt) compares an epoch's output with, told from a run's history.
+use Prim.Native.Nat.{ℕ, _+_}
+use mathlib.Core.List.{List, [], _∷_, _++_}
+use mathlib.Core.Bool.{cond}
+use mathlib.Core.Option.{Option, none, some}
+use lib.Dec.{eqb}
+use Rattle.steps.specs.Answers.{Rec}
+use Rattle.steps.specs.Times.{timesAsked}
+use Rattle.epoch.specs.Words.{DecryptionState, missing, ongoing, complete}
+use Rattle.engine.specs.History.{Entry, Event}
+
+-- a proposer and its plaintext, if it has one
+pub record Paired : Type 0 where
+  pub proposer : ℕ
+  pub plaintext : Option ℕ
+
+abbrev pub paired : ℕ → Option ℕ → Paired
+paired p plaintext = record { proposer = p; plaintext = plaintext }
+
+-- the pairs of a batch's entries
+unfoldable pub pairsIn : List Entry → List Paired
+pairsIn [] = []
+pairsIn (x ∷ xs) = paired (x .proposer) (some (x .plaintext)) ∷ pairsIn xs
+
+-- for each 13 that reads (a is not 0) its proposer, with the plaintext that `text` gives
+unfoldable pub pairsRead : (ℕ → Option ℕ) → List Rec → List Paired
+pairsRead text [] = []
+pairsRead text (r ∷ rs) = cond (eqb (r .a) 0) [] (paired (r .b) (text (r .b)) ∷ []) ++ pairsRead text rs
+
+-- the plaintext in a proposer's decryption entry
+unfoldable pub plaintextOf : DecryptionState → Option ℕ
+plaintextOf missing = none
+plaintextOf (ongoing td) = none
+plaintextOf (complete x) = some x
+
+-- how many answers of this kind about p the calls for epoch e have, all together
+unfoldable pub timesAskedIn : ℕ → List Event → ℕ → ℕ → ℕ
+timesAskedIn kind [] e p = 0
+timesAskedIn kind (x ∷ xs) e p = cond (eqb (x .epoch) e) (timesAsked kind p (x .answers)) 0 + timesAskedIn kind xs e p
