@@ -8,6 +8,12 @@ pub mod Skips
 pub mod RangesState
 pub mod Ranges
 pub mod Window
+pub mod Clearing
+pub mod Looping
+pub mod Works
+pub mod Settled
+pub mod WorkRanges
+pub mod WorkLeaves
 pub mod OneBatch
 pub mod Shown
 pub mod Handout

@@ -4,6 +4,7 @@ use Rattle.engine.specs.Schedule
 use Rattle.engine.specs.State
 use Rattle.engine.specs.HoneyBadger
 use Rattle.engine.specs.Calls
+use Rattle.engine.specs.Work
 use Rattle.engine.specs.Create
 use Rattle.engine.specs.History
 
@@ -18,6 +19,7 @@ unfolding EpochOpened.opened
     Calls.zeroed Calls.countFaults Calls.isEnd Calls.concludeAs Calls.proposeCall Calls.contentOk Calls.contentOf
     Calls.messageCall Calls.skipReply Calls.skipState Calls.queryReply Calls.currentEpochResult Calls.hasInputResult
     Calls.receivedProposalsResult Calls.faultCountResult
+    Work.built Work.epochCall Work.batchesFrom Work.beside Work.workIn Work.proposeWork Work.messageWork Work.committed Work.settledAs
     Create.numbersOk Create.created Create.createReply Create.createState
     History.turnOf History.stateAfter History.turns History.noneFails History.entriesIn History.batchesIn History.fivesIn
     History.eventsOf History.currentAfter History.history History.taken History.decrypted History.plaintext
