@@ -3,11 +3,12 @@ pub mod Bools
 pub mod Fails
 pub mod Refusals
 pub mod Schedules
+pub mod Places
+pub mod Window
+pub mod RangesState
 pub mod Created
 pub mod Skips
-pub mod RangesState
 pub mod Ranges
-pub mod Window
 pub mod Clearing
 pub mod Looping
 pub mod Works

@@ -14,8 +14,9 @@ use Rattle.engine.specs.HoneyBadger.{updateEpoch, inEpoch, tryOutputBatc
 use Rattle.engine.specs.Work.{batchesFrom}
 use Rattle.engine.proofs.Fails.{Only, only-onward, only-batch}
 use Rattle.engine.proofs.Skips.{skip-stays}
-use Rattle.engine.proofs.Window.{Shaped, update-shaped, update-current, update-kept}
-use Rattle.engine.proofs.Clearing.{shaped, with-own, skip-update}
+use Rattle.engine.proofs.Window.{Shaped, with-own, update-shaped, update-current, update-kept}
+use Rattle.engine.proofs.RangesState.{shaped}
+use Rattle.engine.proofs.Clearing.{skip-update}
 use Rattle.steps.proofs.RunLaws.{same-heard, same-cond, same-onward}
 
 -- a batch changes no word of its epoch

@@ -14,7 +14,7 @@ use Rattle.steps.specs.Answers.{tapeOf}
 use Rattle.steps.specs.Steps.{fault, faults}
 use Rattle.steps.specs.Runs.{Verdict, going, refused, failed, Run, ends, before, inside}
 use Rattle.epoch.specs.declared.MessageContent.{MessageContent}
-use Rattle.engine.specs.State.{nodes, ahead, currentEpoch, inputAt, lastEpoch, faultsAt, faultLimit, netOf, withEpoch, stateOk}
+use Rattle.engine.specs.State.{nodes, ahead, currentEpoch, faultCount, inputAt, lastEpoch, faultsAt, faultLimit, netOf, withEpoch, stateOk}
 use Rattle.engine.specs.Calls.{After, after, zeroed, countFaults, concludeAs, conclude, proposeCall, contentOk, contentOf, messageCall}
 use Rattle.engine.specs.Work.{Worked, proposeWork, messageWork, committed, settledAs, settled}
 use Rattle.engine.proofs.RangesState.{header-ok}
@@ -107,5 +107,5 @@ module _ (state scratch answers step : List ℕ) where
 pub count-none : (w : List ℕ) → stateOk w ≡ true → countFaults w [] ≡ w
 unfolding countFaults faults
 count-none w ok =
-    let z : getD w faultsAt 0 + 0 ≡ getD w faultsAt 0 = omega arith in
-    rw (z, le-leb (getD w faultsAt 0) faultLimit (header-ok w ok .faults)) (set-getD w faultsAt 0)
+    let z : faultCount w + 0 ≡ faultCount w = omega arith in
+    rw (z, le-leb (faultCount w) faultLimit (header-ok w ok .counted)) (set-getD w faultsAt 0)

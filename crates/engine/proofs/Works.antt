@@ -23,12 +23,13 @@ use Rattle.epoch.specs.declared.SubsetHandlingStrategy.{SubsetHandlingStrategy}
 use Rattle.epoch.specs.declared.MessageContent.{MessageContent}
 use Rattle.epoch.specs.Epoch.{newEpoch, propose as proposeInEpoch, handleMessageContent}
 use Rattle.epoch.proofs.Writes.{keeps-propose, keeps-message}
-use Rattle.engine.specs.State.{nodes, ahead, currentEpoch, inputAt, netOf, strategyOf, encryptedIn, epochWords, withEpoch, stateOk}
+use Rattle.engine.specs.State.{epochAt, inputAt, nodes, ahead, currentEpoch, netOf, strategyOf, encryptedIn, epochWords, withEpoch, stateOk}
 use Rattle.engine.specs.HoneyBadger.{epochStateMut, inEpoch, outputBatches, propose, handleMessage}
 use Rattle.engine.specs.Work.{built, epochCall, batchesFrom, Worked, worked, beside, workIn, proposeWork, messageWork, committed}
-use Rattle.engine.proofs.Skips.{same-place, skip-stays}
-use Rattle.engine.proofs.Window.{Shaped, words-long, with-head, with-shaped, with-same, with-other, set-shaped, set-words}
-use Rattle.engine.proofs.Clearing.{shaped, with-own, with-twice}
+use Rattle.engine.proofs.Places.{same-place}
+use Rattle.engine.proofs.Window.{Shaped, with-own, net-same, strategy-same, encrypted-same, words-long, with-head, with-shaped, with-twice, with-same, with-other, set-shaped, set-words}
+use Rattle.engine.proofs.RangesState.{shaped}
+use Rattle.engine.proofs.Skips.{skip-stays}
 use Rattle.steps.proofs.RunLaws.{onward-assoc, onward-inside}
 use Rattle.engine.proofs.Looping.{batches-apart, batches-never-fail}
 
@@ -87,7 +88,7 @@ mut-inside n f w h e p = rw (h .nodes) (go (isVacant x) (ask p 1 .answer))
 -- THE STATE THAT IS WRITTEN, v, beside the one that is read, w: the same but for what comes after the current epoch in the header
 pub record Over (w v : List ℕ) : Type 0 where
   pub shape : Shaped (nodes w) (ahead w) v
-  pub head : (i : ℕ) → i < 11 → getD v i 0 ≡ getD w i 0
+  pub head : (i : ℕ) → i < inputAt → getD v i 0 ≡ getD w i 0
   pub words : (e : ℕ) → epochWords v e ≡ epochWords w e
 
 -- w itself, or w with has input set
@@ -97,24 +98,10 @@ module _ (w : List ℕ) (ok : stateOk w ≡ true) where
 
   pub over-input : Over w (set w inputAt 1)
   over-input = record {
-    shape = set-shaped (nodes w) (ahead w) w (shaped w ok) 11 1 (omega arith) (omega arith);
-    head = λ i l. getD-set-other w 11 i 1 0 (omega arith);
-    words = set-words (nodes w) (ahead w) w (shaped w ok) 11 1 (omega arith) (omega arith);
+    shape = set-shaped (nodes w) (ahead w) w (shaped w ok) inputAt 1 (omega arith) (omega arith);
+    head = λ i l. getD-set-other w inputAt i 1 0 (omega arith);
+    words = set-words (nodes w) (ahead w) w (shaped w ok) inputAt 1 (omega arith) (omega arith);
   }
-
--- the state's numbers stand in its first eleven words
-module _ (u w : List ℕ) (head : (i : ℕ) → i < 11 → getD u i 0 ≡ getD w i 0) where
-  net-same : netOf u ≡ netOf w
-  unfolding netOf
-  net-same = rw (head 1 (omega arith), head 2 (omega arith), head 4 (omega arith), head 5 (omega arith))
-
-  strategy-same : strategyOf u ≡ strategyOf w
-  unfolding strategyOf
-  strategy-same = rw (head 6 (omega arith))
-
-  encrypted-same : (e : ℕ) → encryptedIn u e ≡ encryptedIn w e
-  unfolding encryptedIn
-  encrypted-same e = rw (head 7 (omega arith), head 8 (omega arith), head 9 (omega arith))
 
 -- A CALL OF EPOCH e of the window
 module _ (w v : List ℕ) (over : Over w v) (e : ℕ) (low : currentEpoch w ≤ e) (high : e ≤ currentEpoch w + ahead w) where
@@ -123,7 +110,7 @@ module _ (w v : List ℕ) (over : Over w v) (e : ℕ) (low : currentEpoch w ≤ 
     after-shaped : Shaped (nodes w) (ahead w) (withEpoch v e x)
     after-shaped = with-shaped (nodes w) (ahead w) v (over .shape) e x full
 
-    after-head : (i : ℕ) → i < 11 → getD (withEpoch v e x) i 0 ≡ getD w i 0
+    after-head : (i : ℕ) → i < inputAt → getD (withEpoch v e x) i 0 ≡ getD w i 0
     after-head i l = with-head (nodes w) (ahead w) v (over .shape) e x full i (omega arith) ∙ over .head i l
 
     after-words : (d : ℕ) → currentEpoch w ≤ d → d ≤ currentEpoch w + ahead w → beside w e x d ≡ epochWords (withEpoch v e x) d
@@ -139,14 +126,14 @@ module _ (w v : List ℕ) (over : Over w v) (e : ℕ) (low : currentEpoch w ≤ 
     -- no batch: these words alone are written
     pub none-next : committed v e (worked x (currentEpoch w)) ≡ withEpoch v e x
     unfolding committed
-    none-next = skip-stays (currentEpoch w) (withEpoch v e x) (omega (arith, after-head 10 (omega arith)))
+    none-next = skip-stays (currentEpoch w) (withEpoch v e x) (omega (arith, after-head epochAt (omega arith)))
 
     loop-apart : (q : Tape) → outputBatches (withEpoch v e x) q
         ≡ inside (λ d. committed v e (worked x d)) (batchesFrom (nodes w) (beside w e x) (ahead w + 1) (currentEpoch w) q)
     unfolding committed
     loop-apart q =
-        let c = after-head 10 (omega arith) in
-        rw (after-shaped .ahead) (rw (after-head 10 (omega arith)) at
+        let c = after-head epochAt (omega arith) in
+        rw (after-shaped .ahead) (rw (after-head epochAt (omega arith)) at
         (batches-apart (nodes w) (ahead w) (beside w e x) (ahead w + 1) (withEpoch v e x) after-shaped (omega arith) (λ d a b. after-words d (omega arith) (omega arith)) q))
 
   module _ (body : List ℕ → Tape → Run (List ℕ) (Unit {0})) (sized : (x : List ℕ) (q : Tape) → length (body x q .state) ≡ length x) (p : Tape) where
@@ -245,7 +232,8 @@ module _ (w : List ℕ) (ok : stateOk w ≡ true) (p : Tape) where
       is x l q =
           let head = after-head w given (over-input w ok) c (omega arith) (omega arith) x l in
           let u : List ℕ = withEpoch given c x in
-          rw (head 10 (omega arith), net-same u w head, strategy-same u w head, encrypted-same u w head c)
+          let numbers : (i : ℕ) → i < epochAt → getD u i 0 ≡ getD w i 0 = λ i k. head i (omega arith) in
+          rw (head epochAt (omega arith), net-same u w numbers, strategy-same u w numbers, encrypted-same u w numbers c)
 
   -- where it fails, has input and the epoch's words are kept
   pub propose-failed : (error : ℕ) → proposeWork w p .verdict ≡ failed error
@@ -284,7 +272,8 @@ module _ (w : List ℕ) (ok : stateOk w ≡ true) (p : Tape) where
             is x l q =
                 let head = after-head w w (over-same w ok) epoch (ltb-false _ _ b) (ltb-false _ _ a) x l in
                 let u : List ℕ = withEpoch w epoch x in
-                rw (net-same u w head, strategy-same u w head, encrypted-same u w head epoch)
+                let numbers : (i : ℕ) → i < epochAt → getD u i 0 ≡ getD w i 0 = λ i k. head i (omega arith) in
+                rw (net-same u w numbers, strategy-same u w numbers, encrypted-same u w numbers epoch)
 
     pub message-failed : currentEpoch w ≤ epoch → epoch ≤ currentEpoch w + ahead w → (error : ℕ) → messageWork sender epoch proposer content w p .verdict ≡ failed error
         → committed w epoch (messageWork sender epoch proposer content w p .state) ≡ withEpoch w epoch (messageWork sender epoch proposer content w p .state .words)

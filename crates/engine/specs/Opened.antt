@@ -10,9 +10,9 @@ use Rattle.engine.specs.History
 
 unfoldable pub opened : Unit {0}
 unfolding EpochOpened.opened
-    Schedule.scheduleOf Schedule.useOnEpoch Schedule.scheduleOk Schedule.firstNumber Schedule.secondNumber
+    Schedule.scheduleOf Schedule.useOnEpoch Schedule.scheduleOk Schedule.usedFirst Schedule.usedSecond
     State.netOf State.strategyOf State.encryptedIn State.placeOf State.epochWords State.withEpoch State.withoutEpoch
-    State.headerInRange State.epochsInRange State.stateOk
+    State.epochsAt State.allHold State.headerTests State.epochsInRange State.stateOk
     HoneyBadger.updateEpoch HoneyBadger.epochStateMut HoneyBadger.inEpoch HoneyBadger.tryOutputBatches HoneyBadger.propose
     HoneyBadger.handleMessage HoneyBadger.clearBelow HoneyBadger.skipToEpoch HoneyBadger.hasInput
     HoneyBadger.receivedProposals
@@ -20,7 +20,7 @@ unfolding EpochOpened.opened
     Calls.messageCall Calls.skipReply Calls.skipState Calls.queryReply Calls.currentEpochResult Calls.hasInputResult
     Calls.receivedProposalsResult Calls.faultCountResult
     Work.built Work.epochCall Work.batchesFrom Work.beside Work.workIn Work.proposeWork Work.messageWork Work.committed Work.settledAs
-    Create.numbersOk Create.created Create.createReply Create.createState
+    Create.numberTests Create.created Create.createReply Create.createState
     History.turnOf History.stateAfter History.turns History.noneFails History.entriesIn History.batchesIn History.fivesIn
     History.eventsOf History.currentAfter History.history History.taken History.decrypted History.plaintext
     History.countOpen History.wantedIn History.dealt History.handedOf History.unreadableIn History.proposersIn
