@@ -1,29 +1,35 @@
--- The state that create leaves: its length, and that it keeps the range rules.
-use Prim.Native.Nat.{ℕ, zero, suc, _+_, _*_, _-_, _^_, _≤_}
+-- The state that create leaves: its length, and that it keeps the range rules. Assumes nothing.
+use Prim.Native.Nat.{ℕ, zero, suc, _+_, _*_, _-_, _≤_}
 use native.Mathlib.Omega.{arith}
 use mathlib.Core.Path.{_≡_, refl, sym, ap, _∙_}
 use mathlib.Core.Logic.{_↔_}
-use mathlib.Core.List.{List, [], _∷_}
+use mathlib.Core.List.{List}
 use mathlib.Core.Bool.{Bool, true, false, cond, not, _&&_}
-use lib.Dec.{eqb, leb, ltb}
-use lib.Pow.{pow-pos}
-use lib.ListN.{length, getD, take, drop, replicate, length-replicate, length-take, List·getD-eq-default}
+use lib.Dec.{eqb, leb}
+use lib.ListN.{length, getD, drop, replicate, length-append, length-replicate, List·getD-eq-default}
 use lib.Seq.{getD-append-add, getD-take, getD-drop}
-use borrow.Author.Tests.{eqb-true, eq-eqb, leb-true, leb-false, le-leb, lt-leb, lt-ltb}
-use Rattle.subset.specs.Words.{epochLength, proposalAt, valueAt, arrivalAt}
-use Rattle.epoch.specs.Words.{decryptionAt, plaintextAt, ciphertextAt, hadInputAt, terminatedAt, shareAt, maybeHandle, allFrom, recordInRange, recordsInRange, epochInRange}
+use borrow.Author.Tests.{eqb-true, eq-eqb, leb-true, leb-false, le-leb, lt-leb}
 use Rattle.steps.specs.Table.{within}
-use Rattle.engine.specs.Schedule.{scheduleOk, firstNumber, secondNumber}
-use Rattle.engine.specs.State.{stateLength, lastEpoch, headerInRange, epochsInRange, stateOk}
-use Rattle.engine.specs.Create.{Numbers, numbersOk, created, createReply, createState}
-use Rattle.engine.proofs.Bools.{and-left, and-right}
+use Rattle.steps.proofs.Laws.{and-true}
+use Rattle.steps.proofs.Ranges.{and-both, zeros-at}
+use Rattle.subset.specs.Words.{epochLength}
+use Rattle.subset.proofs.Ranges.{limit-some, EpochOk}
+use Rattle.epoch.proofs.RangesWords.{all-every}
+use Rattle.engine.specs.Schedule.{scheduleOk, usedFirst, usedSecond}
+use Rattle.engine.specs.State.{headerLength, vacantAt, epochsAt, stateLength, lastEpoch, allHold, headerTests, headerInRange, epochWords, placeOf, stateOk}
+use Rattle.engine.specs.Create.{Numbers, numberTests, numbersOk, createdHeader, created, createReply, createState}
+use Rattle.engine.specs.Rule.{CreateInRange}
+use Rattle.engine.proofs.Bools.{test-holds}
+use Rattle.engine.proofs.Window.{Shaped, header-first, words-long, place-is}
+use Rattle.engine.proofs.RangesState.{ok-by}
 
 pub length-created : (c : Numbers) → length (created c) ≡ stateLength (c .nodes) (c .ahead)
 unfolding created
-length-created c = simp length-replicate (omega arith)
+length-created c = simp (length-append, length-replicate) (omega (arith, header-first (c .nodes)))
 
 -- "16 + (F+1) × (16 + N × (8+N))"
 pub length-formula : (n ahead : ℕ) → stateLength n ahead ≡ 16 + (ahead + 1) * (16 + n * (8 + n))
+unfolding epochsAt
 length-formula n ahead = refl
 
 pub create-passes : (c : Numbers) (w : List ℕ) → (createReply c w ≡ 0) ↔ ((numbersOk c ≡ true) × (length w ≡ stateLength (c .nodes) (c .ahead)))
@@ -49,93 +55,60 @@ lengthAgrees n ahead =
     eqb (length (created (hosts n ahead))) (stateLength n ahead) && eqb (stateLength n ahead) (16 + (ahead + 1) * (16 + n * (8 + n)))
 
 pub lengths-256 : allBelow 16 (λ n. allBelow 16 (λ ahead. lengthAgrees (n + 1) ahead)) ≡ true
-unfolding allBelow lengthAgrees created
+unfolding allBelow lengthAgrees created epochsAt
 lengths-256 = refl
 
--- THE RANGE RULES. Words that are all 0 keep them
-abbrev pub Zeros : List ℕ → Type 0
-Zeros w = (i : ℕ) → getD w i 0 ≡ 0
-
-pub all-from : (is : ℕ → Bool) → is 0 ≡ true → (m i : ℕ) (w : List ℕ) → ((j : ℕ) → i ≤ j → getD w j 0 ≡ 0) → allFrom is m i w ≡ true
-unfolding allFrom
-all-from is h zero i w z = refl
-all-from is h (suc m) i w z = rw (z i (omega arith), h) (all-from is h m (i + 1) w (λ j l. z j (omega arith)))
-
-all-zeros : (is : ℕ → Bool) → is 0 ≡ true → (m i : ℕ) (w : List ℕ) → Zeros w → allFrom is m i w ≡ true
-all-zeros is h m i w z = all-from is h m i w (λ j _. z j)
-
-module _ (n : ℕ) (some : 1 ≤ n) (w : List ℕ) (z : Zeros w) where
-  record-zeros : (p : ℕ) → recordInRange n w p ≡ true
-  unfolding recordInRange
-  record-zeros p =
-      rw (z (proposalAt n p), z (valueAt n p), z (decryptionAt n p), z (plaintextAt n p), z (ciphertextAt n p), z (hadInputAt n p), z (terminatedAt n p), z (arrivalAt n p), lt-ltb 0 n some)
-      (all-zeros maybeHandle refl n (shareAt n p 0) w z)
-
-  records-zeros : (m p : ℕ) → recordsInRange n m p w ≡ true
-  unfolding recordsInRange
-  records-zeros zero p = refl
-  records-zeros (suc m) p = rw (record-zeros p) (records-zeros m (p + 1))
-
-  pub epoch-zeros : epochInRange n w ≡ true
-  unfolding epochInRange
-  epoch-zeros =
-      rw (z 0, z 1, z 2, z 3, lt-ltb 0 (2 ^ n) (pow-pos n), le-leb 0 n (omega arith), all-zeros (λ x. eqb x 0) refl 12 4 w z)
-      (records-zeros n 0)
-
--- the words of the header, and zeros after them
-headerOf : Numbers → List ℕ
-headerOf c =
-    1 ∷ c .nodes ∷ c .faulty ∷ c .ahead ∷ c .own ∷ c .key ∷ c .strategy
-    ∷ c .schedule ∷ firstNumber (c .schedule) (c .first) ∷ secondNumber (c .schedule) (c .second) ∷ c .epoch ∷ []
-
-pub getD-zeros : (n i : ℕ) → getD (replicate {A = ℕ} n 0) i 0 ≡ 0
-getD-zeros zero i = refl
-getD-zeros (suc n) zero = refl
-getD-zeros (suc n) (suc i) = getD-zeros n i
-
+-- THE RANGE RULES. Behind the numbers all words are 0
 pub created-zeros : (c : Numbers) (i : ℕ) → 11 ≤ i → getD (created c) i 0 ≡ 0
-unfolding created headerOf
+unfolding created
 created-zeros c i h =
+    let e : i ≡ 11 + (i - 11) = omega arith in
     ap (λ (j : ℕ). getD (created c) j 0) e
-    ∙ (getD-append-add (headerOf c) (replicate (5 + (c .ahead + 1) * epochLength (c .nodes)) 0) (i - 11) 0
-    ∙ getD-zeros (5 + (c .ahead + 1) * epochLength (c .nodes)) (i - 11))
-  where
-    e : i ≡ 11 + (i - 11)
-    e = omega arith
+    ∙ (getD-append-add (createdHeader c) (replicate (stateLength (c .nodes) (c .ahead) - 11) 0) (i - 11) 0
+    ∙ zeros-at (stateLength (c .nodes) (c .ahead) - 11) (i - 11))
 
-part-zeros : (w : List ℕ) (n at : ℕ) → ((i : ℕ) → at ≤ i → getD w i 0 ≡ 0) → Zeros (take n (drop at w))
-part-zeros w n at z i = go (leb n i) refl
-  where
-    go : (t : Bool) → leb n i ≡ t → getD (take n (drop at w)) i 0 ≡ 0
-    go true e = List·getD-eq-default (take n (drop at w)) 0 (simp length-take (omega (arith, leb-true n i e)))
-    go false e = getD-take n (drop at w) i 0 (leb-false n i e) ∙ (getD-drop at w i 0 ∙ z (at + i) (omega arith))
+pub created-shaped : (c : Numbers) → Shaped (c .nodes) (c .ahead) (created c)
+unfolding created
+created-shaped c = record { long = length-created c; nodes = refl; ahead = refl }
 
-epochs-zeros : (w : List ℕ) → 1 ≤ getD w 1 0 → (m at : ℕ) → ((i : ℕ) → at ≤ i → getD w i 0 ≡ 0) → epochsInRange w m at ≡ true
-unfolding epochsInRange
-epochs-zeros w h zero at z = refl
-epochs-zeros w h (suc m) at z =
-    rw (epoch-zeros (getD w 1 0) h (take (epochLength (getD w 1 0)) (drop at w)) (part-zeros w (epochLength (getD w 1 0)) at z))
-    (epochs-zeros w h m (at + epochLength (getD w 1 0)) (λ i l. z i (omega arith)))
+-- so that there is no epoch
+pub created-epoch : (c : Numbers) (e i : ℕ) → getD (epochWords (created c) e) i 0 ≡ 0
+unfolding epochWords created
+created-epoch c e i = go (leb (epochLength (c .nodes)) i) refl
+  where
+    p : ℕ
+    p = placeOf (created c) e
+
+    first : 11 ≤ p
+    first = omega (arith, place-is (c .nodes) (c .ahead) (created c) (created-shaped c) e, header-first (c .nodes))
+
+    go : (t : Bool) → leb (epochLength (c .nodes)) i ≡ t → getD (epochWords (created c) e) i 0 ≡ 0
+    go true q =
+        List·getD-eq-default (epochWords (created c) e) 0
+        (omega (arith, words-long (c .nodes) (c .ahead) (created c) (created-shaped c) e, leb-true (epochLength (c .nodes)) i q))
+    go false q =
+        getD-take (epochLength (c .nodes)) (drop p (created c)) i 0 (leb-false (epochLength (c .nodes)) i q)
+        ∙ (getD-drop p (created c) i 0 ∙ created-zeros c (p + i) (omega (arith, first)))
 
 -- the schedule's numbers, as they are stored
-first-again : (k a : ℕ) → firstNumber k (firstNumber k a) ≡ firstNumber k a
-unfolding firstNumber
+first-again : (k a : ℕ) → usedFirst k (usedFirst k a) ≡ usedFirst k a
+unfolding usedFirst
 first-again k a = go (leb k 1)
   where
     go : (t : Bool) → cond t 0 (cond t 0 a) ≡ cond t 0 a
     go true = refl
     go false = refl
 
-second-again : (k b : ℕ) → secondNumber k (secondNumber k b) ≡ secondNumber k b
-unfolding secondNumber
+second-again : (k b : ℕ) → usedSecond k (usedSecond k b) ≡ usedSecond k b
+unfolding usedSecond
 second-again k b = go (leb k 2)
   where
     go : (t : Bool) → cond t 0 (cond t 0 b) ≡ cond t 0 b
     go true = refl
     go false = refl
 
-schedule-kept : (k a b : ℕ) → scheduleOk k a b ≡ true → scheduleOk k (firstNumber k a) (secondNumber k b) ≡ true
-unfolding scheduleOk firstNumber secondNumber
+schedule-kept : (k a b : ℕ) → scheduleOk k a b ≡ true → scheduleOk k (usedFirst k a) (usedSecond k b) ≡ true
+unfolding scheduleOk usedFirst usedSecond
 schedule-kept k a b h = go (leb k 1) refl (eqb k 2) refl (eqb k 3) refl h
   where
     go : (t : Bool) → leb k 1 ≡ t → (u : Bool) → eqb k 2 ≡ u → (v : Bool) → eqb k 3 ≡ v
@@ -146,51 +119,42 @@ schedule-kept k a b h = go (leb k 1) refl (eqb k 2) refl (eqb k 3) refl h
     go false _ false _ true e h = rw (lt-leb k 2 (omega (arith, eqb-true k 3 e))) h
     go false _ false _ false _ h = h
 
--- a conjunction's parts
-eight : (a b c d e f g h : Bool) → (a && b && c && d && e && f && g && h) ≡ true
-    → (a ≡ true) × (b ≡ true) × (c ≡ true) × (d ≡ true) × (e ≡ true) × (f ≡ true) × (g ≡ true) × (h ≡ true)
-eight a b c d e f g h x =
-    let x-7 = and-left (a && b && c && d && e && f && g) h x in
-    let x-6 = and-left (a && b && c && d && e && f) g x-7 in
-    let x-5 = and-left (a && b && c && d && e) f x-6 in
-    let x-4 = and-left (a && b && c && d) e x-5 in
-    let x-3 = and-left (a && b && c) d x-4 in
-    let x-2 = and-left (a && b) c x-3 in (
-      and-left a b x-2,
-      and-right a b x-2,
-      and-right (a && b) c x-3,
-      and-right (a && b && c) d x-4,
-      and-right (a && b && c && d) e x-5,
-      and-right (a && b && c && d && e) f x-6,
-      and-right (a && b && c && d && e && f) g x-7,
-      and-right (a && b && c && d && e && f && g) h x,
-    )
-
 -- "no state the engine leaves breaks them": the state that create leaves
-pub created-ok : (c : Numbers) → numbersOk c ≡ true → stateOk (created c) ≡ true
-unfolding numbersOk stateOk headerInRange created
-created-ok c h =
-    let x = eight (within 1 16 (c .nodes)) (ltb (3 * c .faulty) (c .nodes)) (leb (c .ahead) 15) (leb (c .own) (c .nodes)) (leb (c .key) 1)
-    (leb (c .strategy) 1) (leb (c .epoch) lastEpoch) (scheduleOk (c .schedule) (c .first) (c .second)) h in
-    let low = and-left (leb 1 (c .nodes)) (leb (c .nodes) 16) (x .0) in
-    rw (
-      low,
-      and-right (leb 1 (c .nodes)) (leb (c .nodes) 16) (x .0),
-      x .1,
-      x .2,
-      x .3,
-      x .4,
-      x .5,
-      schedule-kept (c .schedule) (c .first) (c .second) (x .7),
-      eq-eqb _ _ (sym (first-again (c .schedule) (c .first))),
-      eq-eqb _ _ (sym (second-again (c .schedule) (c .second))),
-      le-leb (c .epoch) (lastEpoch + c .ahead + 1) (omega (arith, leb-true (c .epoch) lastEpoch (x .6))),
-      getD-zeros (5 + (c .ahead + 1) * epochLength (c .nodes)) 0,
-      getD-zeros (5 + (c .ahead + 1) * epochLength (c .nodes)) 1,
-      all-from (λ x. eqb x 0) refl 3 13 (created c) (λ j l. created-zeros c j (omega arith)),
-      eq-eqb _ _ (length-created c),
-    ) (epochs-zeros (created c) (leb-true 1 (c .nodes) low) (c .ahead + 1) 16 (λ j l. created-zeros c j (omega arith)))
+module _ (c : Numbers) (h : numbersOk c ≡ true) where
+  test : (i : ℕ) → getD (numberTests c) i true ≡ true
+  test = test-holds (numberTests c) h
 
-pub create-ok : (c : Numbers) (w : List ℕ) → createReply c w ≡ 0 → stateOk (createState c w) ≡ true
+  some : 1 ≤ c .nodes
+  unfolding numberTests
+  some = leb-true 1 (c .nodes) (and-true (leb 1 (c .nodes)) (leb (c .nodes) 16) (test 0) .0)
+
+  created-header : headerInRange (created c) ≡ true
+  unfolding numberTests headerTests allHold created
+  created-header =
+      rw (
+        test 0,
+        test 1,
+        test 2,
+        test 3,
+        test 4,
+        test 5,
+        schedule-kept (c .schedule) (c .first) (c .second) (test 7),
+        eq-eqb _ _ (sym (first-again (c .schedule) (c .first))),
+        eq-eqb _ _ (sym (second-again (c .schedule) (c .second))),
+        le-leb (c .epoch) (lastEpoch + c .ahead + 1) (omega (arith, leb-true (c .epoch) lastEpoch (test 6))),
+        zeros-at (stateLength (c .nodes) (c .ahead) - 11) 0,
+        zeros-at (stateLength (c .nodes) (c .ahead) - 11) 1,
+      ) (and-both _ _ (all-every (λ x. eqb x 0) (headerLength - vacantAt) vacantAt (created c) (λ k l. eq-eqb _ _ (created-zeros c (vacantAt + k) (omega arith)))) refl)
+
+  pub created-ok : stateOk (created c) ≡ true
+  unfolding created
+  created-ok =
+      ok-by (created c) created-header (length-created c) (λ e.
+      record {
+        long = words-long (c .nodes) (c .ahead) (created c) (created-shaped c) e;
+        below = λ i. rw (created-epoch c e i) (limit-some (c .nodes) i some);
+      })
+
+pub create-ok : CreateInRange
 unfolding createState
 create-ok c w h = rw (eq-eqb _ _ h) (created-ok c (create-passes c w .0 h .0))

@@ -10,21 +10,22 @@ use lib.ListN.{length, getD, set, replicate}
 use lib.Seq.{getD-set-other}
 use borrow.Author.Tests.{eqb-true, eqb-false, leb-true, leb-false}
 use Rattle.steps.specs.declared.network_info.NetworkInfo.{NetworkInfo}
+use Rattle.steps.proofs.Ranges.{zeros-at}
 use Rattle.subset.specs.Words.{epochLength}
 use Rattle.epoch.specs.declared.SubsetHandlingStrategy.{SubsetHandlingStrategy}
 use Rattle.epoch.specs.Words.{isVacant}
 use Rattle.epoch.proofs.Told.{nothing}
 use Rattle.epoch.proofs.Batches.{Alive}
-use Rattle.engine.specs.State.{nodes, ahead, currentEpoch, netOf, strategyOf, encryptedIn, epochWords, withEpoch}
+use Rattle.engine.specs.State.{headerLength, epochAt, nodes, ahead, currentEpoch, netOf, strategyOf, encryptedIn, epochWords, withEpoch}
 use Rattle.engine.specs.HoneyBadger.{updateEpoch}
-use Rattle.engine.proofs.Created.{getD-zeros}
-use Rattle.engine.proofs.Skips.{same-place}
+use Rattle.engine.proofs.Places.{same-place}
+use Rattle.engine.proofs.Window as window
 use Rattle.engine.proofs.Window.{Shaped, with-head, with-shaped, with-same, with-other, set-shaped, set-words, update-shaped, update-head, update-current, update-kept, update-next}
 use Rattle.engine.proofs.Handout.{Tk}
 
 -- a place that was cleared
 pub zeros-vacant : (n : ℕ) → isVacant (replicate (epochLength n) 0) ≡ true
-zeros-vacant n = rw (getD-zeros (epochLength n) 0)
+zeros-vacant n = rw (zeros-at (epochLength n) 0)
 
 module _ (Holds : NetworkInfo → SubsetHandlingStrategy → Bool → List ℕ → (ℕ → Option ℕ) → (ℕ → Option ℕ) → (ℕ → Option ℕ) → Type 0) where
   -- the words x of an epoch in which v, d and t were taken: nothing was taken and there is no epoch yet, or they hold it
@@ -36,7 +37,7 @@ module _ (Holds : NetworkInfo → SubsetHandlingStrategy → Bool → List ℕ �
     -- a state w that came from w₀, in which epoch cur is current; vs, ds and ts were taken so far
     pub record Sim (w : List ℕ) (cur : ℕ) (vs ds ts : Tk) : Type 0 where
       pub shaped : Shaped (nodes w₀) (ahead w₀) w
-      pub same : (i : ℕ) → i < 10 → getD w i 0 ≡ getD w₀ i 0
+      pub same : (i : ℕ) → i < epochAt → getD w i 0 ≡ getD w₀ i 0
       pub current : currentEpoch w ≡ cur
       pub slots : (e : ℕ) → cur ≤ e → e ≤ cur + ahead w₀ → Slot (netOf w₀) (strategyOf w₀) (encryptedIn w₀ e) (epochWords w e) (vs e) (ds e) (ts e)
       pub beyond : (e : ℕ) → cur + ahead w₀ < e → (vs e ≡ nothing) × (ds e ≡ nothing) × (ts e ≡ nothing)
@@ -44,23 +45,20 @@ module _ (Holds : NetworkInfo → SubsetHandlingStrategy → Bool → List ℕ �
     module _ (w : List ℕ) (cur : ℕ) (vs ds ts : Tk) (h : Sim w cur vs ds ts) where
       -- what the header says stays
       pub net-same : netOf w ≡ netOf w₀
-      unfolding netOf
-      net-same = rw (h .same 1 (omega arith), h .same 2 (omega arith), h .same 4 (omega arith), h .same 5 (omega arith))
+      net-same = window.net-same w w₀ (h .same)
 
       pub strategy-same : strategyOf w ≡ strategyOf w₀
-      unfolding strategyOf
-      strategy-same = rw (h .same 6 (omega arith))
+      strategy-same = window.strategy-same w w₀ (h .same)
 
       pub encrypted-same : (e : ℕ) → encryptedIn w e ≡ encryptedIn w₀ e
-      unfolding encryptedIn
-      encrypted-same e = rw (h .same 7 (omega arith), h .same 8 (omega arith), h .same 9 (omega arith))
+      encrypted-same = window.encrypted-same w w₀ (h .same)
 
       -- has input or the fault count is written
-      pub sim-set : (j a : ℕ) → 11 ≤ j → j < 16 → Sim (set w j a) cur vs ds ts
+      pub sim-set : (j a : ℕ) → epochAt < j → j < headerLength → Sim (set w j a) cur vs ds ts
       sim-set j a low head = record {
         shaped = set-shaped (nodes w₀) (ahead w₀) w (h .shaped) j a (omega arith) head;
         same = λ i l. getD-set-other w j i a 0 (omega arith) ∙ h .same i l;
-        current = getD-set-other w j 10 a 0 (omega arith) ∙ h .current;
+        current = getD-set-other w j epochAt a 0 (omega arith) ∙ h .current;
         slots = λ e l u. rw (set-words (nodes w₀) (ahead w₀) w (h .shaped) j a (omega arith) head e) (h .slots e l u);
         beyond = h .beyond;
       }
@@ -72,7 +70,7 @@ module _ (Holds : NetworkInfo → SubsetHandlingStrategy → Bool → List ℕ �
       sim-with e l u x long there vs′ ds′ ts′ k other = record {
         shaped = with-shaped (nodes w₀) (ahead w₀) w (h .shaped) e x long;
         same = λ i m. with-head (nodes w₀) (ahead w₀) w (h .shaped) e x long i (omega arith) ∙ h .same i m;
-        current = with-head (nodes w₀) (ahead w₀) w (h .shaped) e x long 10 (omega arith) ∙ h .current;
+        current = with-head (nodes w₀) (ahead w₀) w (h .shaped) e x long epochAt (omega arith) ∙ h .current;
         slots = λ i a b. slot i a b (eqb e i) refl;
         beyond = λ i a. past i a (eqb e i) refl;
       }

@@ -3,10 +3,17 @@ pub mod Bools
 pub mod Fails
 pub mod Refusals
 pub mod Schedules
+pub mod Places
 pub mod Created
 pub mod Skips
 pub mod RangesState
 pub mod Ranges
+pub mod Clearing
+pub mod Looping
+pub mod Works
+pub mod Settled
+pub mod WorkRanges
+pub mod WorkLeaves
 pub mod Window
 pub mod OneBatch
 pub mod Shown

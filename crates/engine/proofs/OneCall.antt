@@ -28,7 +28,7 @@ use Rattle.epoch.specs.Epoch.{newEpoch, propose as proposeInEpoch, handleMessag
 use Rattle.epoch.specs.Batch.{isReady, decryptedFrom, isReadyIn, isRead, outputBatch}
 use Rattle.epoch.proofs.Told.{nothing, fivesAmong, Quiet, shareOf, Told, Ready, EpochLaws}
 use Rattle.epoch.proofs.Batches.{Alive, alive-new, alive-propose, alive-message}
-use Rattle.engine.specs.State.{nodes, ahead, currentEpoch, faultyAt, inputAt, netOf, strategyOf, encryptedIn, epochWords, withEpoch}
+use Rattle.engine.specs.State.{nodes, faulty, ahead, currentEpoch, inputAt, netOf, strategyOf, encryptedIn, epochWords, withEpoch}
 use Rattle.engine.specs.HoneyBadger.{updateEpoch, epochStateMut, inEpoch, tryOutputBatches, outputBatches, propose, handleMessage}
 use Rattle.steps.specs.Batches.{Batch}
 use Rattle.engine.specs.History.{unreadableIn}
@@ -74,7 +74,7 @@ module _ (Holds : NetworkInfo → SubsetHandlingStrategy → Bool → List ℕ �
   SimOf = Sim Holds w₀
 
   abbrev HandOf : Tk → Tk → Tk → Batch → List Rec → Type 0
-  HandOf = Hand (nodes w₀) (getD w₀ faultyAt 0) encrypted
+  HandOf = Hand (nodes w₀) (faulty w₀) encrypted
 
   -- BATCHES
   pub record Batched (cur : ℕ) (vs ds ts : Tk) (ws : List Rec) (w : List ℕ) (r : List Rec) (log : List Entry) : Type 0 where

@@ -23,13 +23,12 @@ use Rattle.subset.proofs.Votes.{Voted}
 use Rattle.epoch.specs.declared.SubsetHandlingStrategy.{SubsetHandlingStrategy}
 use Rattle.epoch.specs.declared.MessageContent.the-variants.{Broadcast, Agreement, DecryptionShare}
 use Rattle.epoch.proofs.Told.{fivesAmong, shareOf, EpochLaws}
-use Rattle.engine.specs.State.{nodes, ahead, currentEpoch, faultyAt, faultsAt, faultLimit, lastEpoch, netOf, strategyOf, encryptedIn, epochWords, stateOk}
+use Rattle.engine.specs.State.{nodes, faulty, ahead, currentEpoch, faultCount, faultsAt, faultLimit, lastEpoch, netOf, strategyOf, encryptedIn, epochWords, stateOk}
 use Rattle.engine.specs.HoneyBadger.{skipToEpoch, propose, handleMessage}
 use Rattle.engine.specs.Calls.{countFaults, proposeCall, contentOk, contentOf, messageCall, skipReply, skipState}
 use Rattle.engine.specs.Laws.{Skipped}
 use Rattle.steps.specs.Batches.{Batch, batchesOf, fivesOf}
-use Rattle.engine.specs.History.{Call, turnOf, stateAfter, turns, noneFails, Event, event, eventsOf, currentAfter, history, taken, decrypted}
-use Rattle.engine.specs.History.{propose as proposing, message as messaging, skip as skipping}
+use Rattle.engine.specs.History.{Call, turnOf, stateAfter, turns, noneFails, Event, event, eventsOf, currentAfter, history, taken, decrypted, propose as proposing, message as messaging, skip as skipping}
 use Rattle.engine.specs.Rule.{stateAfterAll}
 use Rattle.engine.proofs.Skips.{skip-stays, skip-moves, skip-state}
 use Rattle.engine.proofs.Shown.{batchesAmong, batches-read, fives-read}
@@ -143,7 +142,7 @@ module _ (Holds : NetworkInfo → SubsetHandlingStrategy → Bool → List ℕ �
   SimOf = Sim Holds w₀
 
   abbrev HandOf : Tk → Tk → Tk → Batch → List Rec → Type 0
-  HandOf = Hand (nodes w₀) (getD w₀ faultyAt 0) (encryptedIn w₀)
+  HandOf = Hand (nodes w₀) (faulty w₀) (encryptedIn w₀)
 
   -- A CALL WITH REPLY 0 and its event
   record Stepped (cur : ℕ) (vs ds ts : Tk) (x : Event) (w : List ℕ) : Type 0 where
@@ -153,11 +152,11 @@ module _ (Holds : NetworkInfo → SubsetHandlingStrategy → Bool → List ℕ �
 
   sim-count : (w : List ℕ) (cur : ℕ) (vs ds ts : Tk) (log : List Entry) → SimOf w cur vs ds ts → SimOf (countFaults w log) cur vs ds ts
   unfolding countFaults
-  sim-count w cur vs ds ts log h = go (leb (getD w faultsAt 0 + length (faults log)) faultLimit)
+  sim-count w cur vs ds ts log h = go (leb (faultCount w + length (faults log)) faultLimit)
     where
-      go : (t : Bool) → SimOf (cond t (set w faultsAt (getD w faultsAt 0 + length (faults log))) (set w faultsAt faultLimit)) cur vs ds ts
-      go true = sim-set Holds w₀ w cur vs ds ts h 12 (getD w faultsAt 0 + length (faults log)) (omega arith) (omega arith)
-      go false = sim-set Holds w₀ w cur vs ds ts h 12 faultLimit (omega arith) (omega arith)
+      go : (t : Bool) → SimOf (cond t (set w faultsAt (faultCount w + length (faults log))) (set w faultsAt faultLimit)) cur vs ds ts
+      go true = sim-set Holds w₀ w cur vs ds ts h faultsAt (faultCount w + length (faults log)) (omega arith) (omega arith)
+      go false = sim-set Holds w₀ w cur vs ds ts h faultsAt faultLimit (omega arith) (omega arith)
 
   stepped : (cur : ℕ) (vs ds ts : Tk) (x : Event) (w : List ℕ) (log : List Entry) → Moved Holds laws w₀ network cur vs ds ts (x .epoch) (x .shareOf) (x .answers) w [] log
       → x .batches ≡ batchesAmong (outputs log) → x .fives ≡ fivesAmong (faults log) → Stepped cur vs ds ts x (countFaults w log)
@@ -247,7 +246,7 @@ module _ (Holds : NetworkInfo → SubsetHandlingStrategy → Bool → List ℕ �
       subst₃ (λ (a b c : Tk). Dealt (HandOf a b c) (x .batches) (thirteensIn (x .answers)) (x .fives) × AllDealt (HandOf a b c) h)
       (upto-taken ofValue vs x h) (upto-taken ofDecision ds x h) (upto-decrypted ts x h) (
         dealt-map (HandOf (newV vs x) (newD ds x) (newT ts x)) (HandOf (upto (taken ofValue) (newV vs x) h) (upto (taken ofDecision) (newD ds x) h) (upto decrypted (newT ts x) h))
-            (hand-later (nodes w₀) (getD w₀ faultyAt 0) (encryptedIn w₀) (newV vs x) (newD ds x) (newT ts x) _ _ _
+            (hand-later (nodes w₀) (faulty w₀) (encryptedIn w₀) (newV vs x) (newD ds x) (newT ts x) _ _ _
             (λ e q. grown-or (newV vs x e q) (taken ofValue h e q)) (λ e q. grown-or (newD ds x e q) (taken ofDecision h e q)) (λ e q. grown-or (newT ts x e q) (decrypted h e q)))
             (x .batches) (thirteensIn (x .answers)) (x .fives) (s .dealt),
         k,

@@ -20,7 +20,7 @@ use Rattle.epoch.specs.declared.MessageContent.the-variants.{Broadcast, Agreeme
 use Rattle.epoch.specs.Words.{isVacant}
 use Rattle.epoch.specs.Batch.{isReady, outputBatch}
 use Rattle.epoch.proofs.Ranges.{ContentOk, new-epoch-ok, batch-safe, propose-safe, content-safe}
-use Rattle.engine.specs.State.{nodes, ahead, currentEpoch, lastEpoch, faultLimit, inputAt, faultsAt, epochAt, netOf, strategyOf, encryptedIn, epochWords, withEpoch, withoutEpoch, stateOk}
+use Rattle.engine.specs.State.{nodes, ahead, currentEpoch, faultCount, lastEpoch, faultLimit, inputAt, faultsAt, epochAt, netOf, strategyOf, encryptedIn, epochWords, withEpoch, withoutEpoch, stateOk}
 use Rattle.engine.specs.HoneyBadger.{updateEpoch, epochStateMut, inEpoch, tryOutputBatches, propose, handleMessage, clearBelow, skipToEpoch}
 use Rattle.engine.specs.Calls.{After, countFaults, isEnd, concludeAs, proposeCall, messageCall, contentOk, contentOf, skipReply, skipState}
 use Rattle.engine.specs.History.{propose as proposing, message as messaging, skip as skipping, stateAfter}
@@ -128,10 +128,10 @@ module _ (w : List ℕ) (some : 0 < nodes w) (few : nodes w ≤ 16) where
 
   count-ok : (b : ℕ) (v : List ℕ) (log : List Entry) → StateOk w b v → StateOk w b (countFaults v log)
   unfolding countFaults
-  count-ok b v log h = by (leb (getD v faultsAt 0 + length (faults log)) faultLimit) refl
+  count-ok b v log h = by (leb (faultCount v + length (faults log)) faultLimit) refl
     where
-      by : (x : Bool) → leb (getD v faultsAt 0 + length (faults log)) faultLimit ≡ x
-          → StateOk w b (cond x (set v faultsAt (getD v faultsAt 0 + length (faults log))) (set v faultsAt faultLimit))
+      by : (x : Bool) → leb (faultCount v + length (faults log)) faultLimit ≡ x
+          → StateOk w b (cond x (set v faultsAt (faultCount v + length (faults log))) (set v faultsAt faultLimit))
       by true e = faults-ok w b some v h _ (leb-true _ _ e)
       by false e = faults-ok w b some v h faultLimit (omega arith)
 

@@ -11,7 +11,7 @@ use borrow.Author.Tests.{eqb-true, ltb-false, lt-leb, ne-eqb}
 use Rattle.steps.specs.Answers.{tapeOf}
 use Rattle.steps.specs.Runs.{Verdict, going, refused, failed, Run}
 use Rattle.steps.specs.Table.{tableOk}
-use Rattle.engine.specs.State.{nodes, currentEpoch, faultsAt, lastEpoch, stateLength, stateOk}
+use Rattle.engine.specs.State.{nodes, currentEpoch, faultCount, lastEpoch, stateLength, stateOk}
 use Rattle.engine.specs.HoneyBadger.{hasInput, receivedProposals}
 use Rattle.engine.specs.Calls.{After, after, zeroed, isEnd, concludeAs, conclude, proposeCall, contentOk, messageCall, skipReply, skipState, queryReply, currentEpochResult, hasInputResult, receivedProposalsResult, faultCountResult}
 use Rattle.engine.specs.Create.{Numbers, numbersOk, createReply, createState}
@@ -191,7 +191,7 @@ unfolding queryReply currentEpochResult hasInputResult receivedProposalsResult f
 query-refusal w h result = go (stateOk w) refl h
   where
     go : (t : Bool) → stateOk w ≡ t → isRefusal (cond t 0 3) ≡ true
-        → (cond t (currentEpoch w) result ≡ result) × (cond t (cond (hasInput w) 1 0) result ≡ result) × (cond t (receivedProposals w) result ≡ result) × (cond t (getD w faultsAt 0) result ≡ result)
+        → (cond t (currentEpoch w) result ≡ result) × (cond t (cond (hasInput w) 1 0) result ≡ result) × (cond t (receivedProposals w) result ≡ result) × (cond t (faultCount w) result ≡ result)
     go true e h = never (sym h)
     go false e h = (refl, refl, refl, refl)
 

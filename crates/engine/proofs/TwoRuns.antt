@@ -19,12 +19,13 @@ use Rattle.epoch.specs.declared.SubsetHandlingStrategy.{SubsetHandlingStrategy}
 use Rattle.epoch.specs.Words.{isVacant}
 use Rattle.epoch.proofs.Told.{EpochLaws}
 use Rattle.engine.specs.declared.EncryptionSchedule.the-variants.{Always, Never, EveryNthEpoch, TickTock}
-use Rattle.engine.specs.Schedule.{scheduleOf, firstNumber, secondNumber, useOnEpoch}
+use Rattle.engine.specs.Schedule.{scheduleOf, usedFirst, usedSecond, useOnEpoch}
 use Rattle.engine.specs.State.{nodes, netOf, encryptedIn, placeOf, epochWords}
 use Rattle.engine.specs.Create.{Numbers, numbersOk, created, createReply, createState}
 use Rattle.engine.specs.History.{Event, history, turns, noneFails, handed}
 use Rattle.engine.specs.Claim.{One, Made, historyOf, encryptedOf, Sound, TwoRuns}
-use Rattle.engine.proofs.Created.{length-created, create-passes, created-zeros}
+use Rattle.engine.proofs.Created.{create-passes, created-shaped, created-epoch, created-ok}
+use Rattle.engine.proofs.RangesState.{network-ok}
 use Rattle.engine.proofs.Handout.{AllDealt, InAll, all-at, all-handed, all-dealt, exact}
 use Rattle.engine.proofs.Alike.{alike}
 use Rattle.engine.proofs.Invariant.{vacant, Sim}
@@ -32,29 +33,14 @@ use Rattle.engine.proofs.OneRun.{run-ok}
 
 -- THE STATE BEFORE ANY CALL has no epoch
 all-vacant : (c : Numbers) (e : ℕ) → isVacant (epochWords (created c) e) ≡ true
-unfolding epochWords placeOf
-all-vacant c e =
-    let l = epochLength (getD (created c) 1 0) in
-    let p = placeOf (created c) e in
-    eq-eqb (getD (epochWords (created c) e) 0 0) 0
-    (getD-take l (drop p (created c)) 0 0 (omega arith) ∙ (getD-drop p (created c) 0 0 ∙ created-zeros c (p + 0) (omega arith)))
+all-vacant c e = eq-eqb _ _ (created-epoch c e 0)
 
 pub network-of : (c : Numbers) → numbersOk c ≡ true → Network (netOf (created c))
-unfolding netOf created numbersOk
-network-of c ok =
-    let a = and-true _ _ ok in
-    let b = and-true _ _ (a .0) in
-    let d = and-true _ _ (b .0) in
-    let k = and-true _ _ (d .0) in
-    let o = and-true _ _ (k .0) in
-    let h = and-true _ _ (o .0) in
-    let f = and-true (within 1 16 (c .nodes)) (ltb (3 * c .faulty) (c .nodes)) (h .0) in
-    let n = and-true (leb 1 (c .nodes)) (leb (c .nodes) 16) (f .0) in
-    record { some = leb-true 1 (c .nodes) (n .0); sixteen = leb-true (c .nodes) 16 (n .1); faulty = ltb-true (3 * c .faulty) (c .nodes) (f .1); own = leb-true (c .own) (c .nodes) (o .1) }
+network-of c ok = network-ok (created c) (created-ok c ok)
 
 -- the schedule's numbers, as they are stored, say the same
-schedule-same : (k a b : ℕ) → scheduleOf k (firstNumber k a) (secondNumber k b) ≡ scheduleOf k a b
-unfolding scheduleOf firstNumber secondNumber
+schedule-same : (k a b : ℕ) → scheduleOf k (usedFirst k a) (usedSecond k b) ≡ scheduleOf k a b
+unfolding scheduleOf usedFirst usedSecond
 schedule-same k a b = go (eqb k 0) refl (eqb k 1) refl (eqb k 2) refl
   where
     go : (x : Bool) → eqb k 0 ≡ x → (y : Bool) → eqb k 1 ≡ y → (z : Bool) → eqb k 2 ≡ z
@@ -82,7 +68,7 @@ module _ (Holds : NetworkInfo → SubsetHandlingStrategy → Bool → List ℕ �
   pub started : (c : Numbers) → Sim Holds (created c) (created c) (c .epoch) (λ _ _. none) (λ _ _. none) (λ _ _. none)
   unfolding created
   started c = record {
-    shaped = record { long = length-created c; nodes = refl; ahead = refl };
+    shaped = created-shaped c;
     same = λ i l. refl;
     current = refl;
     slots = λ e l u. vacant (all-vacant c e) refl refl refl;

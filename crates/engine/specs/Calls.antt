@@ -2,7 +2,7 @@
 use Prim.Native.Nat.{ℕ, _+_, _/_}
 use mathlib.Core.List.{List, [], _∷_, _++_}
 use mathlib.Core.Bool.{Bool, true, false, cond, _&&_, not}
-use lib.ListN.{length, getD, set, drop, replicate}
+use lib.ListN.{length, set, drop, replicate}
 use lib.Dec.{eqb, leb, ltb}
 use Rattle.steps.specs.Table.{handle, within, tableOk}
 use Rattle.steps.specs.Answers.{Rec, Tape, tapeOf}
@@ -10,7 +10,7 @@ use Rattle.steps.specs.Steps.{Entry, faults, written, writtenFailed}
 use Rattle.steps.specs.Runs.{Verdict, going, refused, failed, Run}
 use Rattle.epoch.specs.declared.MessageContent.{MessageContent}
 use Rattle.epoch.specs.declared.MessageContent.the-variants.{Broadcast, Agreement, DecryptionShare}
-use Rattle.engine.specs.State.{nodes, currentEpoch, lastEpoch, faultsAt, faultLimit, stateOk}
+use Rattle.engine.specs.State.{nodes, currentEpoch, faultCount, lastEpoch, faultsAt, faultLimit, stateOk}
 use Rattle.engine.specs.HoneyBadger.{propose, handleMessage, skipToEpoch, hasInput, receivedProposals}
 
 -- a call's reply, and the lent words afterwards
@@ -30,8 +30,8 @@ zeroed state scratch = replicate (length state) 0 ++ drop (length state) scratch
 -- "the fault count, all faults in successful steps since creation, stopping at 2^32−1"
 unfoldable pub countFaults : List ℕ → List Entry → List ℕ
 countFaults w log =
-    cond (leb (getD w faultsAt 0 + length (faults log)) faultLimit)
-    (set w faultsAt (getD w faultsAt 0 + length (faults log)))
+    cond (leb (faultCount w + length (faults log)) faultLimit)
+    (set w faultsAt (faultCount w + length (faults log)))
     (set w faultsAt faultLimit)
 
 unfoldable pub isEnd : List Rec → Bool
@@ -110,4 +110,4 @@ unfoldable pub receivedProposalsResult : List ℕ → ℕ → ℕ
 receivedProposalsResult w result = cond (stateOk w) (receivedProposals w) result
 
 unfoldable pub faultCountResult : List ℕ → ℕ → ℕ
-faultCountResult w result = cond (stateOk w) (getD w faultsAt 0) result
+faultCountResult w result = cond (stateOk w) (faultCount w) result

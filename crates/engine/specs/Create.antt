@@ -1,13 +1,12 @@
 -- Create: its reply, and the state that it leaves.
-use Prim.Native.Nat.{ℕ, _+_, _*_, _-_}
+use Prim.Native.Nat.{ℕ, _*_, _-_}
 use mathlib.Core.List.{List, [], _∷_, _++_}
-use mathlib.Core.Bool.{Bool, cond, _&&_, not}
+use mathlib.Core.Bool.{Bool, cond, not}
 use lib.ListN.{length, replicate}
 use lib.Dec.{eqb, leb, ltb}
 use Rattle.steps.specs.Table.{within}
-use Rattle.subset.specs.Words.{epochLength}
-use Rattle.engine.specs.Schedule.{scheduleOk, firstNumber, secondNumber}
-use Rattle.engine.specs.State.{stateLength, lastEpoch}
+use Rattle.engine.specs.Schedule.{scheduleOk, usedFirst, usedSecond}
+use Rattle.engine.specs.State.{stateLength, lastEpoch, allHold}
 
 -- the ten numbers, in the order of the interface
 pub record Numbers : Type 0 where
@@ -24,23 +23,31 @@ pub record Numbers : Type 0 where
 
 -- "1: N outside 1..16, 3 × f ≥ N, look-ahead F above 15, own index above N (N means observer), key flag […] or strategy […] not 0 or 1, start
 -- epoch above 2^62", and the schedule's rule
-unfoldable pub numbersOk : Numbers → Bool
-numbersOk c =
+unfoldable pub numberTests : Numbers → List Bool
+numberTests c =
     within 1 16 (c .nodes)
-    && ltb (3 * c .faulty) (c .nodes)
-    && leb (c .ahead) 15
-    && leb (c .own) (c .nodes)
-    && leb (c .key) 1
-    && leb (c .strategy) 1
-    && leb (c .epoch) lastEpoch
-    && scheduleOk (c .schedule) (c .first) (c .second)
+    ∷ ltb (3 * c .faulty) (c .nodes)
+    ∷ leb (c .ahead) 15
+    ∷ leb (c .own) (c .nodes)
+    ∷ leb (c .key) 1
+    ∷ leb (c .strategy) 1
+    ∷ leb (c .epoch) lastEpoch
+    ∷ scheduleOk (c .schedule) (c .first) (c .second)
+    ∷ []
 
--- the state before any call: the header, and look-ahead + 1 places without an epoch
-unfoldable pub created : Numbers → List ℕ
-created c =
+abbrev pub numbersOk : Numbers → Bool
+numbersOk c = allHold (numberTests c)
+
+-- the header's words up to the current epoch
+abbrev pub createdHeader : Numbers → List ℕ
+createdHeader c =
     1 ∷ c .nodes ∷ c .faulty ∷ c .ahead ∷ c .own ∷ c .key ∷ c .strategy
-    ∷ c .schedule ∷ firstNumber (c .schedule) (c .first) ∷ secondNumber (c .schedule) (c .second)
-    ∷ c .epoch ∷ replicate (5 + (c .ahead + 1) * epochLength (c .nodes)) 0
+    ∷ c .schedule ∷ usedFirst (c .schedule) (c .first) ∷ usedSecond (c .schedule) (c .second)
+    ∷ c .epoch ∷ []
+
+-- the state before any call: these, and zeros
+unfoldable pub created : Numbers → List ℕ
+created c = createdHeader c ++ replicate (stateLength (c .nodes) (c .ahead) - length (createdHeader c)) 0
 
 -- "Then 2: state length is not 16 + (F+1) × (16 + N × (8+N)) words."
 unfoldable pub createReply : Numbers → List ℕ → ℕ

@@ -2,7 +2,7 @@
 use Prim.Native.Nat.{ℕ, zero, suc, _+_}
 use mathlib.Core.List.{List, [], _∷_}
 use mathlib.Core.Bool.{Bool, true, false, cond, _||_, not}
-use lib.ListN.{getD, set}
+use lib.ListN.{set}
 use lib.Dec.{eqb, leb, ltb}
 use Rattle.steps.specs.Network.{isValidator}
 use Rattle.steps.specs.Answers.{Tape, ask}
@@ -12,7 +12,7 @@ use Rattle.epoch.specs.declared.MessageContent.{MessageContent}
 use Rattle.epoch.specs.Words.{isVacant}
 use Rattle.epoch.specs.Epoch.{newEpoch, receivedProposals as receivedInEpoch, propose as proposeInEpoch, handleMessageContent}
 use Rattle.epoch.specs.Batch.{isReady, outputBatch}
-use Rattle.engine.specs.State.{nodes, ahead, currentEpoch, epochAt, inputAt, netOf, strategyOf, encryptedIn, epochWords, withEpoch, withoutEpoch}
+use Rattle.engine.specs.State.{nodes, ahead, currentEpoch, input, epochAt, inputAt, netOf, strategyOf, encryptedIn, epochWords, withEpoch, withoutEpoch}
 
 -- `update_epoch`: the finished epoch is cleared
 unfoldable pub updateEpoch : List ℕ → List ℕ
@@ -76,7 +76,7 @@ skipToEpoch target w =
 
 -- `has_input`
 unfoldable pub hasInput : List ℕ → Bool
-hasInput w = not (isValidator (netOf w)) || not (eqb (getD w inputAt 0) 0)
+hasInput w = not (isValidator (netOf w)) || not (eqb (input w) 0)
 
 -- `received_proposals`
 unfoldable pub receivedProposals : List ℕ → ℕ

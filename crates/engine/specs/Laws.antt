@@ -8,7 +8,7 @@ use lib.ListN.{length, getD, replicate}
 use lib.Dec.{eqb}
 use Rattle.steps.specs.Table.{within}
 use Rattle.subset.specs.Words.{epochLength}
-use Rattle.engine.specs.State.{headerLength, nodes, ahead, currentEpoch, epochAt, inputAt, epochWords}
+use Rattle.engine.specs.State.{headerLength, nodes, ahead, currentEpoch, input, epochAt, inputAt, epochWords}
 use Rattle.engine.specs.Calls.{After, zeroed}
 
 -- "1 to 12 turn a call down"
@@ -48,7 +48,7 @@ pub record Promised (replies state scratch step : List ℕ) (r : After) : Type 0
 pub record Skipped (target : ℕ) (w v : List ℕ) : Type 0 where
   pub long : length v ≡ length w
   pub epoch : currentEpoch v ≡ target
-  pub input : getD v inputAt 0 ≡ 0
+  pub input : input v ≡ 0
   -- the rest of the header stays
   pub header : (i : ℕ) → i < headerLength → i ≢ epochAt → i ≢ inputAt → getD v i 0 ≡ getD w i 0
   -- an epoch that was in the state stays as it is where it is not below the target, else nothing is left of it

@@ -2,6 +2,7 @@ pub mod Schedule
 pub mod State
 pub mod HoneyBadger
 pub mod Calls
+pub mod Work
 pub mod Create
 pub mod Laws
 pub mod History

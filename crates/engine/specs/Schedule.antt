@@ -28,8 +28,8 @@ scheduleOk kind a b =
     (cond (eqb kind 3) (within 1 4294967295 (a + b)) false))
 
 -- "schedule numbers a kind doesn't use are ignored": the state holds 0 for them
-unfoldable pub firstNumber : ℕ → ℕ → ℕ
-firstNumber kind a = cond (leb kind 1) 0 a
+unfoldable pub usedFirst : ℕ → ℕ → ℕ
+usedFirst kind a = cond (leb kind 1) 0 a
 
-unfoldable pub secondNumber : ℕ → ℕ → ℕ
-secondNumber kind b = cond (leb kind 2) 0 b
+unfoldable pub usedSecond : ℕ → ℕ → ℕ
+usedSecond kind b = cond (leb kind 2) 0 b

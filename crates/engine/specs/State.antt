@@ -1,6 +1,6 @@
--- The words of the engine's state (docs/STATE.md): a header of 16 words, then look-ahead + 1 epochs.
-use Prim.Native.Nat.{ℕ, zero, suc, _+_, _*_, _%_, _^_}
-use mathlib.Core.List.{List, _++_}
+-- The words of the engine's state (docs/STATE.md): a header of 16 words, and look-ahead + 1 epochs.
+use Prim.Native.Nat.{ℕ, zero, suc, _+_, _*_, _-_, _%_}
+use mathlib.Core.List.{List, [], _∷_, _++_}
 use mathlib.Core.Bool.{Bool, true, false, cond, _&&_, not}
 use lib.ListN.{length, getD, set, take, drop, replicate}
 use lib.Dec.{eqb, leb, ltb}
@@ -10,7 +10,7 @@ use Rattle.subset.specs.Words.{epochLength}
 use Rattle.epoch.specs.Words.{allFrom, epochInRange}
 use Rattle.epoch.specs.declared.SubsetHandlingStrategy.{SubsetHandlingStrategy}
 use Rattle.epoch.specs.declared.SubsetHandlingStrategy.the-variants.{Incremental, AllAtEnd}
-use Rattle.engine.specs.Schedule.{scheduleOf, scheduleOk, firstNumber, secondNumber, useOnEpoch}
+use Rattle.engine.specs.Schedule.{scheduleOf, scheduleOk, usedFirst, usedSecond, useOnEpoch}
 
 abbrev pub headerLength : ℕ
 headerLength = 16
@@ -55,9 +55,17 @@ inputAt = 11
 abbrev pub faultsAt : ℕ
 faultsAt = 12
 
+-- from here to its end the header is 0
+abbrev pub vacantAt : ℕ
+vacantAt = 13
+
+-- where the epochs begin. No law knows the number but `header-first` of proofs/Window.antt, that the header ends at or before it
+unfoldable pub epochsAt : ℕ → ℕ
+epochsAt n = headerLength
+
 -- "state length is […] 16 + (F+1) × (16 + N × (8+N)) words"
 abbrev pub stateLength : ℕ → ℕ → ℕ
-stateLength n ahead = headerLength + (ahead + 1) * epochLength n
+stateLength n ahead = epochsAt n + (ahead + 1) * epochLength n
 
 -- the last epoch in which a call may run, 2^62
 abbrev pub lastEpoch : ℕ
@@ -67,74 +75,109 @@ lastEpoch = 4611686018427387904
 abbrev pub faultLimit : ℕ
 faultLimit = 4294967295
 
+-- tests of which each must hold
+unfoldable pub allHold : List Bool → Bool
+allHold [] = true
+allHold (t ∷ ts) = t && allHold ts
+
 module _ (w : List ℕ) where
+  abbrev pub profile : ℕ
+  profile = getD w profileAt 0
+
   abbrev pub nodes : ℕ
   nodes = getD w nodesAt 0
+
+  abbrev pub faulty : ℕ
+  faulty = getD w faultyAt 0
 
   abbrev pub ahead : ℕ
   ahead = getD w aheadAt 0
 
+  abbrev pub own : ℕ
+  own = getD w ownAt 0
+
+  abbrev pub key : ℕ
+  key = getD w keyAt 0
+
+  abbrev pub strategy : ℕ
+  strategy = getD w strategyAt 0
+
+  abbrev pub schedule : ℕ
+  schedule = getD w scheduleAt 0
+
+  abbrev pub firstNumber : ℕ
+  firstNumber = getD w firstNumberAt 0
+
+  abbrev pub secondNumber : ℕ
+  secondNumber = getD w secondNumberAt 0
+
   abbrev pub currentEpoch : ℕ
   currentEpoch = getD w epochAt 0
+
+  -- has input: 0 or 1
+  abbrev pub input : ℕ
+  input = getD w inputAt 0
+
+  abbrev pub faultCount : ℕ
+  faultCount = getD w faultsAt 0
 
   unfoldable pub netOf : NetworkInfo
   netOf =
       record {
-        «num_nodes» = getD w nodesAt 0;
-        «num_faulty» = getD w faultyAt 0;
-        «our_id» = getD w ownAt 0;
-        «has_key» = not (eqb (getD w keyAt 0) 0);
+        «num_nodes» = nodes;
+        «num_faulty» = faulty;
+        «our_id» = own;
+        «has_key» = not (eqb key 0);
       }
 
   -- "strategy (0 Incremental, 1 AllAtEnd)"
   unfoldable pub strategyOf : SubsetHandlingStrategy
-  strategyOf = cond (eqb (getD w strategyAt 0) 0) Incremental AllAtEnd
+  strategyOf = cond (eqb strategy 0) Incremental AllAtEnd
 
   -- whether contributions in this epoch are encrypted
   unfoldable pub encryptedIn : ℕ → Bool
-  encryptedIn epoch = useOnEpoch (scheduleOf (getD w scheduleAt 0) (getD w firstNumberAt 0) (getD w secondNumberAt 0)) epoch
+  encryptedIn epoch = useOnEpoch (scheduleOf schedule firstNumber secondNumber) epoch
 
   -- epoch e lives at place e mod (F+1)
   unfoldable pub placeOf : ℕ → ℕ
-  placeOf epoch = headerLength + epoch % (getD w aheadAt 0 + 1) * epochLength (getD w nodesAt 0)
+  placeOf epoch = epochsAt nodes + epoch % (ahead + 1) * epochLength nodes
 
   unfoldable pub epochWords : ℕ → List ℕ
-  epochWords epoch = take (epochLength (getD w nodesAt 0)) (drop (placeOf epoch) w)
+  epochWords epoch = take (epochLength nodes) (drop (placeOf epoch) w)
 
   unfoldable pub withEpoch : ℕ → List ℕ → List ℕ
-  withEpoch epoch x = take (placeOf epoch) w ++ (x ++ drop (placeOf epoch + epochLength (getD w nodesAt 0)) w)
+  withEpoch epoch x = take (placeOf epoch) w ++ (x ++ drop (placeOf epoch + epochLength nodes) w)
 
   -- no epoch lives at the place of this one any more
   unfoldable pub withoutEpoch : ℕ → List ℕ
-  withoutEpoch epoch = withEpoch epoch (replicate (epochLength (getD w nodesAt 0)) 0)
+  withoutEpoch epoch = withEpoch epoch (replicate (epochLength nodes) 0)
 
   -- REPLY 3's RULE: each field in its range, whatever the state's past
-  unfoldable pub headerInRange : Bool
-  headerInRange =
-      eqb (getD w profileAt 0) 1
-      && within 1 16 (getD w nodesAt 0)
-      && ltb (3 * getD w faultyAt 0) (getD w nodesAt 0)
-      && leb (getD w aheadAt 0) 15
-      && leb (getD w ownAt 0) (getD w nodesAt 0)
-      && leb (getD w keyAt 0) 1
-      && leb (getD w strategyAt 0) 1
-      && scheduleOk (getD w scheduleAt 0) (getD w firstNumberAt 0) (getD w secondNumberAt 0)
-      && eqb (getD w firstNumberAt 0) (firstNumber (getD w scheduleAt 0) (getD w firstNumberAt 0))
-      && eqb (getD w secondNumberAt 0) (secondNumber (getD w scheduleAt 0) (getD w secondNumberAt 0))
-      && leb (getD w epochAt 0) (lastEpoch + getD w aheadAt 0 + 1)
-      && leb (getD w inputAt 0) 1
-      && leb (getD w faultsAt 0) faultLimit
-      && allFrom (λ x. eqb x 0) 3 13 w
+  unfoldable pub headerTests : List Bool
+  headerTests =
+      eqb profile 1
+      ∷ within 1 16 nodes
+      ∷ ltb (3 * faulty) nodes
+      ∷ leb ahead 15
+      ∷ leb own nodes
+      ∷ leb key 1
+      ∷ leb strategy 1
+      ∷ scheduleOk schedule firstNumber secondNumber
+      ∷ eqb firstNumber (usedFirst schedule firstNumber)
+      ∷ eqb secondNumber (usedSecond schedule secondNumber)
+      ∷ leb currentEpoch (lastEpoch + ahead + 1)
+      ∷ leb input 1
+      ∷ leb faultCount faultLimit
+      ∷ allFrom (λ x. eqb x 0) (headerLength - vacantAt) vacantAt w
+      ∷ []
+
+  abbrev pub headerInRange : Bool
+  headerInRange = allHold headerTests
 
   -- the next m epochs, from the word at on
   unfoldable pub epochsInRange : ℕ → ℕ → Bool
   epochsInRange zero at = true
-  epochsInRange (suc m) at =
-      epochInRange (getD w nodesAt 0) (take (epochLength (getD w nodesAt 0)) (drop at w))
-      && epochsInRange m (at + epochLength (getD w nodesAt 0))
+  epochsInRange (suc m) at = epochInRange nodes (take (epochLength nodes) (drop at w)) && epochsInRange m (at + epochLength nodes)
 
   unfoldable pub stateOk : Bool
-  stateOk =
-      headerInRange
-      && eqb (length w) (stateLength (getD w nodesAt 0) (getD w aheadAt 0))
-      && epochsInRange (getD w aheadAt 0 + 1) headerLength
+  stateOk = headerInRange && eqb (length w) (stateLength nodes ahead) && epochsInRange (ahead + 1) (epochsAt nodes)

@@ -1,4 +1,5 @@
 -- What is proved of the definitions, for this crate's proofs and for those above it.
+pub mod Writes
 pub mod RangesWords
 pub mod Ranges
 pub mod Told

@@ -1,6 +1,7 @@
 -- What is proved of the definitions, for this crate's proofs and for those above it.
 pub mod Laws
 pub mod Runs
+pub mod RunLaws
 pub mod Parts
 pub mod Reading
 pub mod Chain

@@ -1,0 +1,67 @@
+-- Laws of runs that change nothing, have two parts, or are a part of another. Assumes nothing.
+use Prim.Native.Nat.{ℕ}
+use mathlib.Core.Path.{_≡_, refl, ap}
+use mathlib.Core.List.{append-assoc}
+use mathlib.Core.Bool.{Bool, true, false, cond}
+use Rattle.steps.specs.declared.reader.Answer.{Answer}
+use Rattle.steps.specs.declared.reader.Answer.the-variants.{Got, Refused}
+use Rattle.steps.specs.Answers.{Tape, Asked}
+use Rattle.steps.specs.Runs.{Verdict, going, refused, failed, Run, before, onwardAs, onward, heardAs, heard, inside, Left, leaves}
+use Rattle.steps.specs.Steps.{Out}
+
+-- TWO PARTS, and a part
+pub onward-assoc : {S A B C : Type 0} (r : Run S A) (k : A → S → Tape → Run S B) (m : B → S → Tape → Run S C)
+    → onward (onward r k) m ≡ onward r (λ a s q. onward (k a s q) m)
+unfolding onward onwardAs
+onward-assoc {S} {A} {B} {C} r k m = go (r .verdict)
+  where
+    go : (v : Verdict A) → onward (onwardAs v r k) m ≡ onwardAs v r (λ a s q. onward (k a s q) m)
+    go (going a) = next (k a (r .state) (r .tape) .verdict)
+      where
+        s : Run S B
+        s = k a (r .state) (r .tape)
+
+        next : (v : Verdict B) → onwardAs v (before (r .log) s) m ≡ before (r .log) (onwardAs v s m)
+        next (going b) = rw append-assoc
+        next refused = refl
+        next (failed c) = refl
+    go refused = refl
+    go (failed c) = refl
+
+pub onward-inside : {S T A B : Type 0} (put : T → S) (r : Run T A) (k : A → T → Tape → Run T B) (m : A → S → Tape → Run S B)
+    → ((a : A) → inside put (k a (r .state) (r .tape)) ≡ m a (put (r .state)) (r .tape)) → inside put (onward r k) ≡ onward (inside put r) m
+unfolding onward onwardAs
+onward-inside {A = A} put r k m h = go (r .verdict)
+  where
+    go : (v : Verdict A) → inside put (onwardAs v r k) ≡ onwardAs v (inside put r) m
+    go (going a) = ap (before (r .log)) (h a)
+    go refused = refl
+    go (failed c) = refl
+
+-- what a part's function leaves, as what the whole leaves
+pub leaves-inside : {S T A : Type 0} (put : T → S) (d : Left T A) (o : Out) (r : Run T A) → d ≡ leaves o r
+    → record { state = put (d .state); verdict = d .verdict; tape = d .tape; out = d .out } ≡ leaves o (inside put r)
+leaves-inside put d o r e = rw e
+
+-- A RUN THAT CHANGES NOTHING
+module _ {S A : Type 0} (s : S) where
+  pub same-heard : (q : Asked) (k : ℕ → ℕ → Tape → Run S A) → ((a b : ℕ) (p : Tape) → k a b p .state ≡ s) → heard q s k .state ≡ s
+  unfolding heard heardAs
+  same-heard q k f = go (q .answer)
+    where
+      go : (x : Answer) → heardAs x s (q .tape) k .state ≡ s
+      go (Got a b) = f a b (q .tape)
+      go Refused = refl
+
+  pub same-cond : (t : Bool) (x y : Run S A) → x .state ≡ s → y .state ≡ s → cond t x y .state ≡ s
+  same-cond true x y h k = h
+  same-cond false x y h k = k
+
+pub same-onward : {S A B : Type 0} (s : S) (r : Run S A) (k : A → S → Tape → Run S B) → r .state ≡ s → ((a : A) (q : Tape) → k a s q .state ≡ s) → onward r k .state ≡ s
+unfolding onward onwardAs
+same-onward {A = A} s r k h f = go (r .verdict)
+  where
+    go : (v : Verdict A) → onwardAs v r k .state ≡ s
+    go (going a) = rw h (f a (r .tape))
+    go refused = h
+    go (failed c) = h
