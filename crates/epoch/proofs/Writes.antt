@@ -23,6 +23,7 @@ use Rattle.epoch.specs.declared.SubsetHandlingStrategy.{SubsetHandlingSt
 use Rattle.epoch.specs.declared.MessageContent.{MessageContent}
 use Rattle.epoch.specs.declared.MessageContent.the-variants.{Broadcast, Agreement, DecryptionShare}
 use Rattle.epoch.specs.Words.{isComplete, isAccepted, accept, DecryptionState, missing, ongoing, complete, decryptionAt, plaintextAt, ciphertextAt, hadInputAt, terminatedAt, shareAt, loadDecryption, setShares, storeEntry, storeDecryption}
+use Rattle.epoch.proofs.Shares.{by-entry, by-share}
 use Rattle.epoch.specs.Epoch.{firstContributions, entryAfter, handlesNow, subsetComplete, proposalDropped, processDecryption, callEntry, sendDecryptionShare, handleDecryptionShare, finishAt, finishFrom, handleContribution, handleFrom, handleContributions, processSubset, handedUp, callSubset, propose, handleMessageContent}
 
 -- A PROPERTY OF AN EPOCH'S WORDS that is kept when a word other than the status is written, and when the status becomes 2
@@ -150,21 +151,15 @@ module _ (P : List ℕ → Type 0) (other : (w : List ℕ) (i x : ℕ) → (i �
     unfolding processDecryption
     keeps-process p w r h = keeps-onward _ _ (keeps-decryption (net .«num_nodes») w p (entryAfter (r .verdict) (r .state)) h) (λ _ w q h. h)
 
-    keeps-call : (s : DecryptionState) (p : ℕ) (w : List ℕ) (t : Tape) (call : ThresholdDecrypt → Tape → Run ThresholdDecrypt (Option ℕ)) → P w → P (callEntry net s p w t call .state)
-    unfolding callEntry
-    keeps-call missing p w t call h = keeps-process p w (call new t) h
-    keeps-call (ongoing td) p w t call h = keeps-process p w (call td t) h
-    keeps-call (complete plaintext) p w t call h = h
+    keeps-call : (p : ℕ) (call : ThresholdDecrypt → Tape → Run ThresholdDecrypt (Option ℕ)) (w : List ℕ) (t : Tape) → P w → P (callEntry net p call w t .state)
+    keeps-call p call w t h = by-entry net p w t (λ r. P (r .state)) call (keeps-process p w _ h) h
 
     keeps-send : (p value : ℕ) (w : List ℕ) (t : Tape) → P w → P (sendDecryptionShare net p value w t .state)
     unfolding sendDecryptionShare
-    keeps-send p value w t h = keeps-heard (askAbout t 8 p) w _ h (λ a b q. keeps-cond (eqb a 0) _ _ h (keeps-call (loadDecryption (net .«num_nodes») w p) p w q _ h))
+    keeps-send p value w t h = keeps-heard (askAbout t 8 p) w _ h (λ a b q. keeps-cond (eqb a 0) _ _ h (keeps-call p _ w q h))
 
     keeps-share : (sender p share : ℕ) (w : List ℕ) (t : Tape) → P w → P (handleDecryptionShare net sender p share w t .state)
-    unfolding handleDecryptionShare
-    keeps-share sender p share w t h =
-        keeps-cond (isComplete w) _ _ (keeps-cond (isAccepted w p) _ _ (keeps-call (loadDecryption (net .«num_nodes») w p) p w t _ h) h)
-        (keeps-call (loadDecryption (net .«num_nodes») w p) p w t _ h)
+    keeps-share sender p share w t h = by-share net p w t (λ r. P (r .state)) sender share h (keeps-call p _ w t h)
 
     keeps-finish : (p : ℕ) (w : List ℕ) (t : Tape) → P w → P (finishAt net p w t .state)
     unfolding finishAt
