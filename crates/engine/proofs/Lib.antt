@@ -21,3 +21,4 @@ pub mod Agreement
 pub mod Rule
 pub mod Tests
 pub mod Pair
+pub mod SecondPair

@@ -11,3 +11,4 @@ pub mod Opened
 pub mod Cases
 pub mod Further
 pub mod Pair
+pub mod SecondPair
