@@ -66,7 +66,7 @@ event epoch shareOf xs o = record { epoch = epoch; shareOf = shareOf; answers = 
 abbrev proposing : ℕ → List Item → Outcome → Line
 proposing epoch xs o = record { call = propose (replicate 144 9) (table xs) (replicate 64 9); events = event epoch none xs o }
 
--- a broadcast message, an agreement message, and a decryption share of the sender
+-- messages, each by its sender, its epoch and the proposer that it is about: of the broadcast, of the agreement, and a decryption share
 abbrev hearing : ℕ → ℕ → ℕ → List Item → Outcome → Line
 hearing sender epoch p xs o =
     record { call = message sender epoch 1 p 0 (replicate 144 9) (table xs) (replicate 64 9); events = event epoch none xs o }
@@ -90,7 +90,7 @@ unfoldable pub eventsOf : List Line → List Event
 eventsOf [] = []
 eventsOf (l ∷ ls) = l .events ++ eventsOf ls
 
--- THE HOSTS. EveryNthEpoch(2): epoch 2 is encrypted, epochs 1 and 3 are not. In epoch e the proposer 4 − e is decided 0, the others 1. The
+-- THE HOSTS. EveryNthEpoch(2): epochs 0 and 2 are encrypted, epochs 1 and 3 are not. In epoch e the proposer 4 − e is decided 0, the others 1. The
 -- value of proposer p is 10 × e + p, but in epoch 2 proposer 3 has the value 21 of proposer 1. A value v decrypts to 100 + v; 120 does not read.
 --
 -- So both hosts hand out this batch of epoch 2; its proposer 0 is unreadable
