@@ -29,4 +29,5 @@ pub mod Entries
 pub mod Rule
 pub mod Tests
 pub mod Pair
+pub mod SecondPair
 pub mod Bounded

@@ -1,5 +1,5 @@
 -- Computed tests for what demand 3's claim says of closed runs: where a test is true, the premise or conclusion that it stands for holds. The
--- worked pairs (Pair.antt, Mixed.antt) compute them. Assumes nothing.
+-- worked pairs (Pair.antt, SecondPair.antt) compute them. Assumes nothing.
 use Prim.Native.Nat.{ℕ, zero, suc, _+_, _-_, _≤_, _<_}
 use mathlib.Core.Path.{_≡_, refl, sym, ap, _∙_}
 use mathlib.Core.Logic.{_⊎_, inl, inr}
@@ -12,8 +12,9 @@ use lib.ListN.{length}
 use borrow.Author.Tests.{eqb-true, eqb-false, eq-eqb, leb-true, ltb-true}
 use Rattle.steps.specs.Answers.{Rec}
 use Rattle.steps.specs.Taken.{orElse, isTrue, lastOutputIn, firstTaken, thirteensIn}
-use Rattle.engine.specs.History.{Event, Entry, Batch, taken, decisionTaken, decidedTrueIn, onesIn, Handed, handed, handedIn, namesOf, thirteensOf, unreadable, unreadableOf, contributors, Reading}
+use Rattle.engine.specs.History.{Turn, noneFails, Event, Entry, Batch, taken, decisionTaken, decidedTrueIn, onesIn, Handed, handed, handedIn, namesOf, thirteensOf, unreadable, unreadableOf, contributors, Reading}
 use Rattle.engine.specs.Claim.{TookAlike, ReadAlike, DecidedTrue, Rising, Exact, One, Two}
+use Rattle.engine.specs.Pair.{repliesIn}
 use Rattle.engine.proofs.Handout.{true-one, is-true}
 
 -- two tests, both true
@@ -43,6 +44,12 @@ every-at test (y ∷ ys) h x m = go (every-at test ys (right _ _ h) x) (List·Me
     go : (List·Memᴰ x ys → test x ≡ true) → (x ≡ y) ⊎ List·Memᴰ x ys → test x ≡ true
     go later (inl e) = rw e (left _ _ h)
     go later (inr m) = later m
+
+-- NO CALL FAILS where no reply is 20 or more
+pub none-fails : (ts : List Turn) → every (λ reply. ltb reply 20) (repliesIn ts) ≡ true → noneFails ts ≡ true
+unfolding every repliesIn noneFails
+none-fails [] h = refl
+none-fails (t ∷ ts) h = rw (left _ _ h, none-fails ts (right _ _ h))
 
 -- WHAT WAS TAKEN. An answer has no output, or this one
 unfoldable pub isOr : Option ℕ → ℕ → Bool

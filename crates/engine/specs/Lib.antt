@@ -13,3 +13,4 @@ pub mod Opened
 pub mod Cases
 pub mod Further
 pub mod Pair
+pub mod SecondPair

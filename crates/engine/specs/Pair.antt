@@ -187,7 +187,7 @@ unfoldable pub seenIn : List Handed → List Seen
 seenIn [] = []
 seenIn (x ∷ xs) = seen x ∷ seenIn xs
 
-abbrev entry : ℕ → ℕ → BatchEntry
+abbrev pub entry : ℕ → ℕ → BatchEntry
 entry p plaintext = record { proposer = p; plaintext = plaintext }
 
 -- epoch 0: one entry, and proposer 1 is unreadable; epoch 1: two entries
