@@ -5,4 +5,5 @@ pub mod Steps
 pub mod Runs
 pub mod Parts
 pub mod Taken
+pub mod Bits
 pub mod Opened
