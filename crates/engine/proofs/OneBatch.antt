@@ -12,9 +12,10 @@ use Rattle.steps.specs.Answers.{Rec, Tape, tape}
 use Rattle.steps.specs.Steps.{Entry, fault, output, Item, item, faults, outputs}
 use Rattle.steps.specs.Runs.{going, ends, before}
 use Rattle.steps.specs.Taken.{thirteensIn}
+use Rattle.steps.specs.Bits.{hasBit, withBit, countBits}
 use Rattle.steps.proofs.Read13.{Gives, gives-map, gives-cond, gives-about, gives-onward, Neither, neither, neither-then, neither-13, thirteens-13, outputs-append, faults-append}
 use Rattle.subset.specs.Words.{recordLength}
-use Rattle.epoch.specs.Words.{hasBit, withBit, countBits, plaintextAt}
+use Rattle.epoch.specs.Words.{plaintextAt}
 use Rattle.epoch.specs.Batch.{isRead, readAt, readFrom, entriesFrom, outputBatchIn, outputBatch}
 use Rattle.epoch.proofs.Told.{fivesAmong}
 use Rattle.engine.specs.History.{namesFrom, namesOf, unreadableIn}

@@ -2,7 +2,7 @@
 -- share; in a batch its record and N entries. Assumes nothing.
 use Prim.Native.Nat.{ℕ, zero, suc, _+_, _*_, _≤_}
 use mathlib.Core.List.{List, [], _∷_, _++_}
-use mathlib.Core.Bool.{Bool, true, false, cond}
+use mathlib.Core.Bool.{Bool, true, false, cond, _&&_, not}
 use mathlib.Core.Option.{Option}
 use native.Mathlib.Omega.{arith}
 use lib.ListN.{length, getD}
@@ -11,18 +11,19 @@ use Rattle.steps.specs.declared.network_info.NetworkInfo.{NetworkInfo}
 use Rattle.steps.specs.Answers.{Tape}
 use Rattle.steps.specs.Steps.{Entry, fault, output}
 use Rattle.steps.specs.Runs.{Verdict, going, refused, failed, Run}
+use Rattle.steps.specs.Bits.{hasBit, countBits}
 use Rattle.steps.proofs.Bounded.{Bounded, bounded-ends, bounded-wider, bounded-before, bounded-one, bounded-cond, bounded-ask, bounded-about, bounded-then, bounded-onward, bounded-inside}
 use Rattle.decryption.specs.declared.ThresholdDecrypt.{ThresholdDecrypt}
 use Rattle.decryption.specs.Decrypt.{isSender}
 use Rattle.decryption.proofs.Bounded.{Writes as Calls, set-writes, start-writes, handle-writes as share-writes}
-use Rattle.subset.specs.Words.{countAt}
+use Rattle.subset.specs.Words.{recordLength, countAt}
 use Rattle.subset.proofs.Bounded.{Writes, propose-writes as propose-subset, handle-writes as handle-subset}
 use Rattle.epoch.specs.declared.SubsetHandlingStrategy.{SubsetHandlingStrategy}
 use Rattle.epoch.specs.declared.MessageContent.{MessageContent}
 use Rattle.epoch.specs.declared.MessageContent.the-variants.{Broadcast, Agreement, DecryptionShare}
-use Rattle.epoch.specs.Words.{hasBit, countBits, isComplete, isAccepted, DecryptionState, missing, ongoing, complete, loadDecryption, plaintextAt}
+use Rattle.epoch.specs.Words.{isComplete, isAccepted, DecryptionState, missing, ongoing, complete, loadDecryption, asks, decryptionAt, plaintextIn}
 use Rattle.epoch.specs.Epoch.{firstContributions, unexpectedFrom, unexpectedShares, handlesNow, processDecryption, callEntry, inputCiphertext, sendDecryptionShare, handleDecryptionShare, finishAt, finishFrom, handleContribution, handleFrom, handleContributions, processSubset, handedUp, callSubset, propose, handleMessageContent}
-use Rattle.epoch.specs.Batch.{readAt, readFrom, entriesFrom, outputBatch}
+use Rattle.epoch.specs.Batch.{isRead, readAt, readFrom, entriesFrom, outputBatchIn, outputBatch}
 
 -- a list with one entry or none before it
 one-more : (x : Bool) (e : Entry) (l : List Entry) → length (cond x (e ∷ []) [] ++ l) ≤ suc (length l)
@@ -30,29 +31,33 @@ one-more true e l = omega arith
 one-more false e l = omega arith
 
 -- THE BATCH
-entries-few : (n m p readable : ℕ) (w : List ℕ) → length (entriesFrom n m p readable w) ≤ m
-unfolding entriesFrom
-entries-few n zero p readable w = omega arith
-entries-few n (suc m) p readable w =
-    omega (arith, entries-few n m (p + 1) readable w, one-more (hasBit readable p) (output 2 p (getD w (plaintextAt n p) 0)) (entriesFrom n m (p + 1) readable w))
+module _ (size : ℕ) where
+  entries-few : (m p readable : ℕ) (w : List ℕ) → length (entriesFrom size m p readable w) ≤ m
+  unfolding entriesFrom
+  entries-few zero p readable w = omega arith
+  entries-few (suc m) p readable w =
+      omega (arith, entries-few m (p + 1) readable w, one-more (hasBit readable p) (output 2 p (plaintextIn size w p)) (entriesFrom size m (p + 1) readable w))
 
-read-at-writes : (p readable : ℕ) → Writes 0 (readAt p readable)
-unfolding readAt
-read-at-writes p readable w tape =
-    bounded-cond (isAccepted w p) 0 tape _ _
-    (bounded-about 0 tape 13 p w _ (λ a b q. bounded-cond (eqb a 0) 1 q _ _ (bounded-one (fault 5 p 0) 0 q _ bounded-ends) bounded-ends))
-    bounded-ends
+  read-at-writes : (p readable : ℕ) → Writes 0 (readAt size p readable)
+  unfolding readAt
+  read-at-writes p readable w tape =
+      bounded-cond (isRead size w p) 0 tape _ _
+      (bounded-about 0 tape 13 p w _ (λ a b q. bounded-cond (eqb a 0) 1 q _ _ (bounded-one (fault 5 p 0) 0 q _ bounded-ends) bounded-ends))
+      bounded-ends
 
-read-writes : (m p readable : ℕ) → Writes 0 (readFrom m p readable)
-unfolding readFrom
-read-writes zero p readable w tape = bounded-ends
-read-writes (suc m) p readable w tape = bounded-onward 0 tape _ _ (read-at-writes p readable w tape) (λ readable w q. read-writes m (p + 1) readable w q)
+  read-writes : (m p readable : ℕ) → Writes 0 (readFrom size m p readable)
+  unfolding readFrom
+  read-writes zero p readable w tape = bounded-ends
+  read-writes (suc m) p readable w tape = bounded-onward 0 tape _ _ (read-at-writes p readable w tape) (λ readable w q. read-writes m (p + 1) readable w q)
+
+  pub batch-in-writes : (n epoch : ℕ) → Writes (1 + n) (outputBatchIn size n epoch)
+  unfolding outputBatchIn
+  batch-in-writes n epoch w p =
+      bounded-onward (1 + n) p _ _ (read-writes n 0 0 w p) (λ readable w q.
+      bounded-before (output 1 epoch (countBits n 0 readable) ∷ entriesFrom size n 0 readable w) 0 (1 + n) q _ (omega (arith, entries-few n 0 readable w)) bounded-ends)
 
 pub batch-writes : (n epoch : ℕ) → Writes (1 + n) (outputBatch n epoch)
-unfolding outputBatch
-batch-writes n epoch w p =
-    bounded-onward (1 + n) p _ _ (read-writes n 0 0 w p) (λ readable w q.
-    bounded-before (output 1 epoch (countBits n 0 readable) ∷ entriesFrom n n 0 readable w) 0 (1 + n) q _ (omega (arith, entries-few n n 0 readable w)) bounded-ends)
+batch-writes n epoch w p = batch-in-writes (recordLength n) n epoch w p
 
 -- DONE
 unexpected-few : (m i : ℕ) (td : ThresholdDecrypt) → length (unexpectedFrom m i td) ≤ m
@@ -91,12 +96,10 @@ module _ (net : NetworkInfo) where
   process-writes more p w tape r h =
       bounded-wider (more + 0) more tape _ (omega arith) (bounded-then more 0 tape _ _ (record { short = h .short }) (λ _ _. bounded-ends))
 
-  entry-writes : (more : ℕ) (d : DecryptionState) (p : ℕ) (w : List ℕ) (tape : Tape) (call : ThresholdDecrypt → Tape → Run ThresholdDecrypt (Option ℕ))
-      → Calls more call → Bounded more tape (callEntry net d p w tape call)
+  entry-writes : (more p : ℕ) (call : ThresholdDecrypt → Tape → Run ThresholdDecrypt (Option ℕ)) → Calls more call → Writes more (callEntry net p call)
   unfolding callEntry
-  entry-writes more missing p w tape call h = process-writes more p w tape _ (h _ tape)
-  entry-writes more (ongoing td) p w tape call h = process-writes more p w tape _ (h td tape)
-  entry-writes more (complete plaintext) p w tape call h = bounded-ends
+  entry-writes more p call h w tape =
+      bounded-cond (asks (getD w (decryptionAt (net .«num_nodes») p) 0)) more tape _ _ (process-writes more p w tape _ (h _ tape)) bounded-ends
 
   -- fault 4 follows an answer, of which `setCiphertext` tells no more: it is counted to the answer 8 that came before
   input-writes : (p value : ℕ) → Calls 1 (inputCiphertext net p value)
@@ -109,15 +112,14 @@ module _ (net : NetworkInfo) where
   unfolding sendDecryptionShare
   send-writes p value w tape =
       bounded-about 0 tape 8 p w _ (λ a b q.
-      bounded-cond (eqb a 0) 1 q _ _ (bounded-one (fault 3 p 0) 0 q _ bounded-ends) (entry-writes 1 _ p w q _ (input-writes p value)))
+      bounded-cond (eqb a 0) 1 q _ _ (bounded-one (fault 3 p 0) 0 q _ bounded-ends) (entry-writes 1 p _ (input-writes p value) w q))
 
   share-message-writes : (sender p share : ℕ) → Writes 1 (handleDecryptionShare net sender p share)
   unfolding handleDecryptionShare
   share-message-writes sender p share w tape =
-      let k = entry-writes 1 (loadDecryption (net .«num_nodes») w p) p w tape _ (share-writes net p sender share) in
-      bounded-cond (isComplete w) 1 tape _ _
-      (bounded-cond (isAccepted w p) 1 tape _ _ k (bounded-one (fault 2 sender 0) 0 tape _ bounded-ends))
-      k
+      bounded-cond (isComplete w && not (isAccepted w p)) 1 tape _ _
+      (bounded-one (fault 2 sender 0) 0 tape _ bounded-ends)
+      (entry-writes 1 p _ (share-writes net p sender share) w tape)
 
   module _ (strategy : SubsetHandlingStrategy) (encrypted : Bool) where
     contribution-writes : (p value : ℕ) → Writes 0 (handleContribution net strategy encrypted p value)

@@ -10,10 +10,11 @@ use lib.Seq.{getD-set-same, getD-set-other}
 use lib.Pow.{pow-pos, pow-add, shr-shr}
 use lib.Dec.{eqb, ltb}
 use borrow.Author.Tests.{eqb-true, eqb-false, ltb-true, ltb-false, eq-eqb}
+use Rattle.steps.specs.Bits.{hasBit, withBit}
 use Rattle.decryption.specs.declared.ThresholdDecrypt.{ThresholdDecrypt}
 use Rattle.decryption.specs.Decrypt.{new}
 use Rattle.subset.specs.Words.{epochLength, acceptedAt, recordAt}
-use Rattle.epoch.specs.Words.{hasBit, withBit, isAccepted, accept, DecryptionState, missing, ongoing, complete, decryptionAt, plaintextAt, ciphertextAt, hadInputAt, terminatedAt, shareAt, setShares, flag, storeEntry, storeDecryption}
+use Rattle.epoch.specs.Words.{isAccepted, accept, DecryptionState, missing, ongoing, complete, decryptionAt, plaintextAt, ciphertextAt, hadInputAt, terminatedAt, shareAt, setShares, flag, storeEntry, storeDecryption}
 
 -- THE ACCEPTED PROPOSERS
 module _ (x p : ℕ) (no : hasBit x p ≡ false) where

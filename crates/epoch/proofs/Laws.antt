@@ -17,6 +17,7 @@ use Rattle.steps.specs.Answers.{Rec, Tape}
 use Rattle.steps.specs.Table.{within}
 use Rattle.steps.specs.Runs.{Verdict, going, refused, failed, Run}
 use Rattle.steps.specs.Taken.{orElse, isThere, isTrue, ofValue, ofDecision}
+use Rattle.steps.specs.Bits.{hasBit}
 use Rattle.steps.proofs.Laws.{and-true}
 use Rattle.steps.proofs.Chains.{Good}
 use Rattle.steps.proofs.Past.{Past, Others, past-first, past-thirteens, past-decrypted, past-good}
@@ -34,7 +35,7 @@ use Rattle.epoch.specs.declared.SubsetHandlingStrategy.{SubsetHandlingSt
 use Rattle.epoch.specs.declared.SubsetHandlingStrategy.the-variants.{Incremental, AllAtEnd}
 use Rattle.epoch.specs.declared.MessageContent.{MessageContent}
 use Rattle.epoch.specs.declared.MessageContent.the-variants.{Broadcast, Agreement, DecryptionShare}
-use Rattle.epoch.specs.Words.{isComplete, isAccepted, hasBit, missing, ongoing, complete, entryComplete, isSettled, isOpen, decryptionAt, plaintextAt, loadInstance, loadDecryption}
+use Rattle.epoch.specs.Words.{isComplete, isAccepted, missing, ongoing, complete, entryComplete, isSettled, isOpen, decryptionAt, plaintextAt, loadInstance, loadDecryption}
 use Rattle.epoch.specs.Epoch.{newEpoch, callEntry, handleDecryptionShare, processSubset, handedUp, callSubset, propose, handleMessageContent}
 use Rattle.epoch.specs.Batch.{decryptedFrom, isReadyIn, isRead, isReady}
 use Rattle.epoch.proofs.Told.{nothing, shareOf, Told, Ready, EpochLaws}

@@ -9,6 +9,7 @@ use lib.ListN.{length, getD, replicate, length-append, length-replicate, List·g
 use lib.Pow.{pow-add}
 use lib.Dec.{leb, ltb, eqb}
 use borrow.Author.Tests.{eqb-true, eqb-false, leb-true, ltb-true, ltb-false, eq-eqb, le-leb, lt-ltb}
+use Rattle.steps.specs.Bits.{hasBit, withBit}
 use Rattle.steps.proofs.Laws.{and-true}
 use Rattle.steps.proofs.Ranges.{and-both, Below, zeros-at}
 use Rattle.decryption.specs.declared.ThresholdDecrypt.{ThresholdDecrypt}
@@ -16,7 +17,7 @@ use Rattle.decryption.specs.Decrypt.{new}
 use Rattle.decryption.proofs.Ranges.{handles, InstanceOk, new-ok}
 use Rattle.subset.specs.Words.{recordLength, epochLength, statusAt, decidedAt, acceptedAt, countAt, recordAt, proposalAt}
 use Rattle.subset.proofs.Ranges.{ownLimit, fieldLimit, limitAt, limit-own, limit-field, limit-share, limit-some, two-some, EpochOk, set-field, set-own, field-below}
-use Rattle.epoch.specs.Words.{hasBit, withBit, accept, DecryptionState, missing, ongoing, complete, decryptionAt, plaintextAt, hadInputAt, terminatedAt, shareAt, sharesFrom, entryNone, loadInstance, loadEntry, setShares, flag, storeEntry, storeDecryption, maybeHandle, allFrom, recordInRange, recordsInRange, epochInRange}
+use Rattle.epoch.specs.Words.{accept, DecryptionState, missing, ongoing, complete, decryptionAt, plaintextAt, hadInputAt, terminatedAt, shareAt, sharesFrom, entryNone, loadInstance, loadEntry, setShares, flag, storeEntry, storeDecryption, maybeHandle, allFrom, recordInRange, recordsInRange, epochInRange}
 
 -- THE ACCEPTED PROPOSERS. A bit below n leaves the word below 2^n
 module _ (n x i : ℕ) (l : i < n) (h : x < 2 ^ n) where

@@ -6,8 +6,9 @@ use lib.Dec.{eqb}
 use Rattle.steps.specs.Answers.{Tape, askAbout}
 use Rattle.steps.specs.Steps.{Entry, fault, output}
 use Rattle.steps.specs.Runs.{going, Run, ends, before, onward, heard}
+use Rattle.steps.specs.Bits.{hasBit, withBit, countBits}
 use Rattle.subset.specs.Words.{recordLength}
-use Rattle.epoch.specs.Words.{isComplete, hasBit, withBit, countBits, isAccepted, isSettled, isOpen, decryptionIn, plaintextIn}
+use Rattle.epoch.specs.Words.{isComplete, isAccepted, isSettled, isOpen, decryptionIn, plaintextIn}
 
 -- In the words of an epoch of n proposers whose records have `size` words each
 module _ (size : ℕ) where

@@ -9,6 +9,7 @@ use Rattle.steps.specs.declared.network_info.NetworkInfo.{NetworkInfo}
 use Rattle.steps.specs.Answers.{Tape, ask, askAbout}
 use Rattle.steps.specs.Steps.{Entry, fault}
 use Rattle.steps.specs.Runs.{Verdict, going, refused, failed, Run, ends, before, onward, heard, inside}
+use Rattle.steps.specs.Bits.{countBits}
 use Rattle.decryption.specs.declared.ThresholdDecrypt.{ThresholdDecrypt}
 use Rattle.decryption.specs.Decrypt.{new, setCiphertext, startDecryption, isSender, handleMessage as handleShare}
 use Rattle.subset.specs.Words.{epochLength, statusAt, decidedAt, acceptedAt, countAt, proposalAt, valueAt, arrivalAt, dropFrom}
@@ -17,7 +18,7 @@ use Rattle.epoch.specs.declared.SubsetHandlingStrategy.{SubsetHandlingSt
 use Rattle.epoch.specs.declared.SubsetHandlingStrategy.the-variants.{Incremental, AllAtEnd}
 use Rattle.epoch.specs.declared.MessageContent.{MessageContent}
 use Rattle.epoch.specs.declared.MessageContent.the-variants.{Broadcast, Agreement, DecryptionShare}
-use Rattle.epoch.specs.Words.{isVacant, isComplete, countBits, isAccepted, accept, DecryptionState, missing, ongoing, complete, asks, decryptionAt, loadEntry, loadDecryption, storeDecryption}
+use Rattle.epoch.specs.Words.{isVacant, isComplete, isAccepted, accept, DecryptionState, missing, ongoing, complete, asks, decryptionAt, loadEntry, loadDecryption, storeDecryption}
 
 -- an epoch whose instances have just been built
 unfoldable pub newEpoch : ℕ → List ℕ

@@ -7,7 +7,7 @@ use Rattle.epoch.specs.Batch
 
 unfoldable pub opened : Unit {0}
 unfolding DecryptionOpened.opened SubsetOpened.opened
-    Words.hasBit Words.withBit Words.countBits Words.isAccepted Words.accept Words.asks Words.isSettled
+    Words.isAccepted Words.accept Words.asks Words.isSettled
     Words.isOpen Words.sharesFrom Words.loadInstance
     Words.loadEntry Words.loadDecryption Words.setShares Words.storeEntry Words.storeDecryption Words.allFrom Words.recordInRange
     Words.recordsInRange Words.epochInRange

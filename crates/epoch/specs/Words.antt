@@ -4,6 +4,7 @@ use mathlib.Core.List.{List, [], _∷_, _++_}
 use mathlib.Core.Bool.{Bool, true, false, cond, _&&_, _||_, not}
 use lib.ListN.{getD, set, replicate}
 use lib.Dec.{eqb, leb, ltb}
+use Rattle.steps.specs.Bits.{hasBit, withBit}
 use Rattle.decryption.specs.declared.ThresholdDecrypt.{ThresholdDecrypt}
 use Rattle.decryption.specs.Decrypt.{new}
 use Rattle.subset.specs.Words.{fieldAt, recordAt, statusAt, decidedAt, acceptedAt, countAt, proposalAt, valueAt, arrivalAt, epochLength}
@@ -16,17 +17,6 @@ abbrev pub isComplete : List ℕ → Bool
 isComplete w = eqb (getD w statusAt 0) 2
 
 -- THE ACCEPTED PROPOSERS, a word of bits
-unfoldable pub hasBit : ℕ → ℕ → Bool
-hasBit x i = eqb (x / 2 ^ i % 2) 1
-
-unfoldable pub withBit : ℕ → ℕ → ℕ
-withBit x i = cond (hasBit x i) x (x + 2 ^ i)
-
--- how many of the next m bits, from bit i on, are set
-unfoldable pub countBits : ℕ → ℕ → ℕ → ℕ
-countBits zero i x = 0
-countBits (suc m) i x = cond (hasBit x i) 1 0 + countBits m (i + 1) x
-
 unfoldable pub isAccepted : List ℕ → ℕ → Bool
 isAccepted w p = hasBit (getD w acceptedAt 0) p
 

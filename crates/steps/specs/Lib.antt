@@ -6,6 +6,7 @@ pub mod Steps
 pub mod Runs
 pub mod Parts
 pub mod Taken
+pub mod Bits
 pub mod Times
 pub mod Batches
 pub mod Opened

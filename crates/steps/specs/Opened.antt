@@ -5,6 +5,7 @@ use Rattle.steps.specs.Steps
 use Rattle.steps.specs.Runs
 use Rattle.steps.specs.Parts
 use Rattle.steps.specs.Taken
+use Rattle.steps.specs.Bits
 use Rattle.steps.specs.Times
 use Rattle.steps.specs.Batches
 
@@ -18,6 +19,7 @@ unfolding Table.recordOk Table.contextAfter Table.mayFollow Table.chainOk Table.
     Parts.isPart Parts.partEntries Parts.outputOf Parts.lastOf Parts.lastOutput Parts.partsFrom
     Taken.orElse Taken.isThere Taken.isTrue Taken.lastOutputIn Taken.firstTaken Taken.asked Taken.onesFrom
     Taken.concernedAfter Taken.concerns Taken.firstDecrypted Taken.thirteensIn
+    Bits.hasBit Bits.withBit Bits.countBits Bits.bitsFrom
     Times.timesAsked
     Batches.entriesIn Batches.batchesIn Batches.fivesIn
 opened = tt

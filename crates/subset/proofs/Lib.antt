@@ -11,3 +11,4 @@ pub mod Worked
 pub mod Ranges
 pub mod Votes
 pub mod Bounded
+pub mod Bits

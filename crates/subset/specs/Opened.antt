@@ -3,6 +3,7 @@ use Rattle.steps.specs.Opened as StepsOpened
 use Rattle.subset.specs.Words
 use Rattle.subset.specs.Proposal
 use Rattle.subset.specs.Subset
+use Rattle.subset.specs.Bits
 
 unfoldable pub opened : Unit {0}
 unfolding StepsOpened.opened
@@ -12,4 +13,5 @@ unfolding StepsOpened.opened
     Proposal.afterValue Proposal.handleBroadcast
     Subset.countFrom Subset.completeFrom Subset.contributed Subset.atProposal Subset.broadcastAt Subset.agreementAt
     Subset.voteFrom Subset.votes Subset.tryOutput Subset.propose Subset.handleMessage
+    Bits.tagIn Bits.proposalsIn
 opened = tt
