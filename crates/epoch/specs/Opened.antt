@@ -11,7 +11,7 @@ unfolding DecryptionOpened.opened SubsetOpened.opened
     Words.isOpen Words.sharesFrom Words.loadInstance
     Words.loadEntry Words.loadDecryption Words.setShares Words.storeEntry Words.storeDecryption Words.allFrom Words.recordInRange
     Words.recordsInRange Words.epochInRange
-    Epoch.newEpoch Epoch.receivedProposals Epoch.firstContributions Epoch.entryAfter Epoch.unexpectedFrom
+    Epoch.receivedProposals Epoch.firstContributions Epoch.entryAfter Epoch.unexpectedFrom
     Epoch.unexpectedShares Epoch.handlesNow Epoch.subsetComplete Epoch.proposalDropped Epoch.processDecryption
     Epoch.callEntry Epoch.inputCiphertext Epoch.sendDecryptionShare Epoch.handleDecryptionShare Epoch.finishAt
     Epoch.finishFrom Epoch.handleContribution Epoch.handleFrom Epoch.handleContributions Epoch.processSubset Epoch.handedUp

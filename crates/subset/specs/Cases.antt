@@ -4,14 +4,14 @@ use mathlib.Core.Path.{_≡_, refl}
 use mathlib.Core.List.{List, [], _∷_}
 use mathlib.Core.Bool.{Bool, true, false}
 use mathlib.Core.Option.{Option, none, some}
-use lib.ListN.{length, getD, set, replicate}
+use lib.ListN.{length, getD}
 use Rattle.steps.specs.declared.network_info.NetworkInfo.{NetworkInfo}
 use Rattle.steps.specs.Answers.{Tape, tapeOf}
 use Rattle.steps.specs.Steps.{Item, item, chainWords, firstAt}
 use Rattle.steps.specs.Runs.{Verdict, going, refused, failed, Run}
 use Rattle.subset.specs.declared.ProposalState.{ProposalState}
 use Rattle.subset.specs.declared.ProposalState.the-variants.{Ongoing, HasValue, Accepted, Complete}
-use Rattle.subset.specs.Words.{epochLength, statusAt, countAt, valueAt, arrivalAt, loadProposal, storeProposal}
+use Rattle.subset.specs.Words.{newEpoch, countOf, valueAt, arrivalAt, loadProposal, storeProposal}
 use Rattle.subset.specs.Proposal.{handleAgreement, handleBroadcast}
 use Rattle.subset.specs.Subset.{receivedProposals, countAccepted, tryOutput, propose, handleMessage}
 use Rattle.subset.specs.Opened.{opened}
@@ -45,7 +45,7 @@ storeFrom n p [] w = w
 storeFrom n p (s ∷ ss) w = storeFrom n (p + 1) ss (storeProposal n w p s)
 
 unfoldable pub wordsOf : List ProposalState → List ℕ
-wordsOf ss = storeFrom (length ss) 0 ss (set (replicate (epochLength (length ss)) 0) statusAt 1)
+wordsOf ss = storeFrom (length ss) 0 ss (newEpoch (length ss))
 
 unfoldable pub loadFrom : ℕ → ℕ → ℕ → List ℕ → List ProposalState
 loadFrom n zero p w = []
@@ -74,7 +74,7 @@ abbrev pub movedIn : Run ProposalState (Option ℕ) → Seen
 movedIn r = moved (r .verdict) (r .state) (length (r .tape .rest))
 
 abbrev pub leftIn : ℕ → Run (List ℕ) Bool → Seen
-leftIn n r = left (r .verdict) (loadFrom n n 0 (r .state)) (contributionsFrom n (getD (r .state) countAt 0) 0 (r .state)) (length (r .tape .rest))
+leftIn n r = left (r .verdict) (loadFrom n n 0 (r .state)) (contributionsFrom n (countOf (r .state)) 0 (r .state)) (length (r .tape .rest))
 
 unfoldable pub seenOf : Op → Seen
 seenOf (proposal s call rs) = movedIn (callProposal call s (answers rs))

@@ -45,9 +45,9 @@ afterAgreement (Complete b) out = moved (Complete b) none
 unfoldable pub afterBroadcast : ProposalState → Output → Moved
 afterBroadcast Ongoing Missing = moved Ongoing none
 afterBroadcast Ongoing (Value v) = moved (HasValue v) none
-afterBroadcast (HasValue v) out = moved (HasValue v) none
 afterBroadcast Accepted Missing = moved Accepted none
 afterBroadcast Accepted (Value v) = moved (Complete true) (some v)
+afterBroadcast (HasValue v) out = moved (HasValue v) none
 afterBroadcast (Complete b) out = moved (Complete b) none
 
 -- "No outside call is made in HasValue for broadcast, in Accepted for agreement, in Complete at all."
@@ -59,8 +59,8 @@ asksAgreement (Complete b) = false
 
 unfoldable pub asksBroadcast : ProposalState → Bool
 asksBroadcast Ongoing = true
-asksBroadcast (HasValue v) = false
 asksBroadcast Accepted = true
+asksBroadcast (HasValue v) = false
 asksBroadcast (Complete b) = false
 
 abbrev pub movedTo : Moved → Tape → Run ProposalState (Option ℕ)

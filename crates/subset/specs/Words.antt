@@ -2,17 +2,20 @@
 use Prim.Native.Nat.{ℕ, zero, suc, _+_, _*_}
 use mathlib.Core.List.{List}
 use mathlib.Core.Bool.{Bool, true, false, cond, not}
-use lib.ListN.{getD, set}
+use lib.ListN.{getD, set, replicate}
 use lib.Dec.{eqb, ltb}
 use Rattle.subset.specs.declared.ProposalState.{ProposalState}
 use Rattle.subset.specs.declared.ProposalState.the-variants.{Ongoing, HasValue, Accepted, Complete}
 
--- the length of a proposer's record, and of an epoch
+-- where the records begin, the length of a proposer's record, and of an epoch
+abbrev pub recordsAt : ℕ
+recordsAt = 16
+
 abbrev pub recordLength : ℕ → ℕ
 recordLength n = 8 + n
 
 abbrev pub epochLength : ℕ → ℕ
-epochLength n = 16 + n * recordLength n
+epochLength n = recordsAt + n * recordLength n
 
 -- the epoch's own words
 abbrev pub statusAt : ℕ
@@ -27,6 +30,16 @@ acceptedAt = 2
 abbrev pub countAt : ℕ
 countAt = 3
 
+-- the status: there is no such epoch, `SubsetState::Ongoing`, `SubsetState::Complete`
+abbrev pub statusVacant : ℕ
+statusVacant = 0
+
+abbrev pub statusOngoing : ℕ
+statusOngoing = 1
+
+abbrev pub statusComplete : ℕ
+statusComplete = 2
+
 abbrev pub statusOf : List ℕ → ℕ
 statusOf w = getD w statusAt 0
 
@@ -39,9 +52,13 @@ acceptedOf w = getD w acceptedAt 0
 abbrev pub countOf : List ℕ → ℕ
 countOf w = getD w countAt 0
 
+-- an epoch whose instances have just been built, of which nothing is known yet
+unfoldable pub newEpoch : ℕ → List ℕ
+newEpoch n = set (replicate (epochLength n) 0) statusAt statusOngoing
+
 -- word j of proposer p's record, where a record has `size` words
 abbrev pub fieldAt : ℕ → ℕ → ℕ → ℕ
-fieldAt size p j = 16 + p * size + j
+fieldAt size p j = recordsAt + p * size + j
 
 abbrev pub recordAt : ℕ → ℕ → ℕ → ℕ
 recordAt n p j = fieldAt (recordLength n) p j
