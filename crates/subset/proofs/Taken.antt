@@ -1,10 +1,12 @@
 -- What is taken stays taken, and what the words' tests say of it. Assumes nothing.
-use Prim.Native.Nat.{ℕ, zero, suc, _+_, _≤_}
+use Prim.Native.Nat.{ℕ, zero, suc, _+_, _≤_, _<_}
 use mathlib.Core.Path.{_≡_, refl, sym, ap, _∙_}
 use mathlib.Core.List.{List}
+use mathlib.Core.Logic.{_⊎_, inl, inr}
 use mathlib.Core.Bool.{Bool, true, false, cond, _&&_, _||_, not, false≢true}
 use mathlib.Core.Option.{Option, none, some}
 use native.Mathlib.Omega.{arith}
+use lib.ListN.{getD}
 use lib.Dec.{eqb, leb}
 use borrow.Author.Tests.{eqb-true, eq-eqb, ne-eqb, leb-true, le-leb}
 use Rattle.steps.specs.declared.network_info.NetworkInfo.{NetworkInfo}
@@ -13,6 +15,8 @@ use Rattle.steps.specs.Answers.{Rec}
 use Rattle.steps.specs.Taken.{orElse, isThere, isTrue, firstTaken, ofValue, ofDecision, asked, onesFrom}
 use Rattle.steps.proofs.Laws.{and-true}
 use Rattle.steps.proofs.Chains.{orElse-assoc, Bit}
+use Rattle.subset.specs.declared.ProposalState.the-variants.{Ongoing}
+use Rattle.subset.specs.Words.{recordLength, proposalAt, valueAt, tagHasValue, tagAccepted, tagCompleteFalse, tagCompleteTrue, proposalOf, tagOf, loadProposal}
 use Rattle.subset.specs.Proposal.{accepted, complete}
 use Rattle.subset.specs.Subset.{countFrom, completeFrom}
 use Rattle.subset.specs.Rule.{settledFrom, isOver}
@@ -137,9 +141,32 @@ unfolding onesFrom
 ones-same d d′ h zero i = refl
 ones-same d d′ h (suc m) i = rw (h i, ones-same d d′ h m (i + 1))
 
--- WHAT THE WORDS SAY
-accepted-is : (v d : Option ℕ) → Bit d → accepted (stateOf v d) ≡ isTrue d
-unfolding accepted isTrue Bit
+-- WHAT THE WORDS SAY. A tag is that of the state that it reads as, or no test holds of it
+tag-known : (tag value : ℕ)
+    → (tagOf (proposalOf tag value) ≡ tag)
+    ⊎ ((eqb tag tagAccepted ≡ false) × (eqb tag tagCompleteFalse ≡ false) × (eqb tag tagCompleteTrue ≡ false) × (proposalOf tag value ≡ Ongoing))
+unfolding proposalOf tagOf
+tag-known tag value = go (eqb tag tagHasValue) refl (eqb tag tagAccepted) refl (eqb tag tagCompleteFalse) refl (eqb tag tagCompleteTrue) refl
+  where
+    go : (a : Bool) → eqb tag tagHasValue ≡ a → (b : Bool) → eqb tag tagAccepted ≡ b → (c : Bool) → eqb tag tagCompleteFalse ≡ c → (d : Bool) → eqb tag tagCompleteTrue ≡ d
+        → (tagOf (proposalOf tag value) ≡ tag)
+        ⊎ ((eqb tag tagAccepted ≡ false) × (eqb tag tagCompleteFalse ≡ false) × (eqb tag tagCompleteTrue ≡ false) × (proposalOf tag value ≡ Ongoing))
+    go true a b e c f d g = inl (rw (eqb-true tag tagHasValue a))
+    go false a true e c f d g = inl (rw (eqb-true tag tagAccepted e))
+    go false a false e true f d g = inl (rw (eqb-true tag tagCompleteFalse f))
+    go false a false e false f true g = inl (rw (eqb-true tag tagCompleteTrue g))
+    go false a false e false f false g = inr (e, f, g, rw (a, e, f, g))
+
+accepted-tag : (tag value : ℕ) → accepted tag ≡ accepted (tagOf (proposalOf tag value))
+unfolding accepted tagOf
+accepted-tag tag value = elim (tag-known tag value) [ inl e ↦ rw e | inr e ↦ rw (e .0, e .2, e .3) ]
+
+complete-tag : (tag value : ℕ) → complete tag ≡ complete (tagOf (proposalOf tag value))
+unfolding complete tagOf
+complete-tag tag value = elim (tag-known tag value) [ inl e ↦ rw e | inr e ↦ rw (e .1, e .2, e .3) ]
+
+accepted-is : (v d : Option ℕ) → Bit d → accepted (tagOf (stateOf v d)) ≡ isTrue d
+unfolding accepted tagOf isTrue Bit
 accepted-is none none b = refl
 accepted-is (some v) none b = refl
 accepted-is none (some zero) b = refl
@@ -148,8 +175,8 @@ accepted-is none (some (suc zero)) b = refl
 accepted-is (some v) (some (suc zero)) b = refl
 accepted-is v (some (suc (suc d))) b = absurd (omega arith)
 
-complete-is : (v d : Option ℕ) → Bit d → complete (stateOf v d) ≡ cell v d
-unfolding complete isTrue isThere Bit
+complete-is : (v d : Option ℕ) → Bit d → complete (tagOf (stateOf v d)) ≡ cell v d
+unfolding complete tagOf isTrue isThere Bit
 complete-is none none b = refl
 complete-is (some v) none b = refl
 complete-is none (some zero) b = refl
@@ -159,12 +186,20 @@ complete-is (some v) (some (suc zero)) b = refl
 complete-is v (some (suc (suc d))) b = absurd (omega arith)
 
 module _ (old : ℕ → Bool) (n : ℕ) (w : List ℕ) (v d : ℕ → Option ℕ) (h : Held old n w v d) where
-  pub accepted-ones : (m i : ℕ) → i + m ≤ n → countFrom n accepted m i w ≡ onesFrom d m i
+  accepted-at : (i : ℕ) → i < n → accepted (getD w (proposalAt n i) 0) ≡ isTrue (d i)
+  unfolding loadProposal
+  accepted-at i l = accepted-tag (getD w (proposalAt n i) 0) (getD w (valueAt n i) 0) ∙ ap (λ s. accepted (tagOf s)) (h .load i l) ∙ accepted-is (v i) (d i) (h .bits i)
+
+  complete-at : (i : ℕ) → i < n → complete (getD w (proposalAt n i) 0) ≡ cell (v i) (d i)
+  unfolding loadProposal
+  complete-at i l = complete-tag (getD w (proposalAt n i) 0) (getD w (valueAt n i) 0) ∙ ap (λ s. complete (tagOf s)) (h .load i l) ∙ complete-is (v i) (d i) (h .bits i)
+
+  pub accepted-ones : (m i : ℕ) → i + m ≤ n → countFrom (recordLength n) accepted m i w ≡ onesFrom d m i
   unfolding countFrom onesFrom
   accepted-ones zero i l = refl
-  accepted-ones (suc m) i l = rw (h .load i (omega arith), accepted-is (v i) (d i) (h .bits i), accepted-ones m (i + 1) (omega arith))
+  accepted-ones (suc m) i l = rw (accepted-at i (omega arith), accepted-ones m (i + 1) (omega arith))
 
-  pub complete-settled : (m i : ℕ) → i + m ≤ n → completeFrom n m i w ≡ settledFrom v d m i
+  pub complete-settled : (m i : ℕ) → i + m ≤ n → completeFrom (recordLength n) m i w ≡ settledFrom v d m i
   unfolding completeFrom settledFrom
   complete-settled zero i l = refl
-  complete-settled (suc m) i l = rw (h .load i (omega arith), complete-is (v i) (d i) (h .bits i), complete-settled m (i + 1) (omega arith))
+  complete-settled (suc m) i l = rw (complete-at i (omega arith), complete-settled m (i + 1) (omega arith))
