@@ -19,5 +19,6 @@ pub mod OneRun
 pub mod TwoRuns
 pub mod Agreement
 pub mod Entries
+pub mod Eights
 pub mod Rule
 pub mod Pair

@@ -11,4 +11,5 @@ pub mod Contributions
 pub mod Finishing
 pub mod Holds
 pub mod Laws
+pub mod Eights
 pub mod Batches
