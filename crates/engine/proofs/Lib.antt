@@ -26,6 +26,7 @@ pub mod OneRun
 pub mod TwoRuns
 pub mod Agreement
 pub mod Entries
+pub mod Eights
 pub mod Rule
 pub mod Tests
 pub mod Pair

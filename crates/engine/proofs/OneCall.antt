@@ -39,7 +39,7 @@ use Rattle.engine.proofs.Handout.{Tk, Hand, Dealt, no-batch, one-batch,
 use Rattle.engine.proofs.Invariant.{Slot, vacant, lives, Sim, net-same, strategy-same, encrypted-same, sim-set, sim-with, sim-update}
 
 -- what a run gives, from what holds after it
-gives-after : {S A : Type 0} (r : Run S A) (P : A → S → Tape → Type 0) (Q : A → S → Tape → List Entry → Type 0) → After r P
+pub gives-after : {S A : Type 0} (r : Run S A) (P : A → S → Tape → Type 0) (Q : A → S → Tape → List Entry → Type 0) → After r P
     → ((a : A) (s : S) (p : Tape) → s ≡ r .state → P a s p → Q a s p (r .log)) → Gives r Q
 gives-after {S} {A} r P Q h k = go (r .verdict) h
   where
@@ -170,14 +170,14 @@ module _ (Holds : NetworkInfo → SubsetHandlingStrategy → Bool → List ℕ �
               (λ _ u z k y. batch-then w cur vs ds ts (p .rest) x (q .rest) l u (z .rest) k b (batch-of w cur vs ds ts (p .rest) x (q .rest) l rd b) y))))
 
   -- THE EPOCH IS THERE, built now or before
-  record Built (e cur : ℕ) (vs ds ts : Tk) (ws : List Rec) (w : List ℕ) (r : List Rec) (log : List Entry) : Type 0 where
-    sim : SimOf w cur vs ds ts
-    there : Alive (epochWords w e)
-    holds : Holds net strategy (encrypted e) (epochWords w e) (vs e) (ds e) (ts e)
-    nothing : Neither ws r
-    told : thirteensIn ws ≡ thirteensIn r
-    good : Good (nodes w₀) r
-    silent : log ≡ []
+  pub record Built (e cur : ℕ) (vs ds ts : Tk) (ws : List Rec) (w : List ℕ) (r : List Rec) (log : List Entry) : Type 0 where
+    pub sim : SimOf w cur vs ds ts
+    pub there : Alive (epochWords w e)
+    pub holds : Holds net strategy (encrypted e) (epochWords w e) (vs e) (ds e) (ts e)
+    pub nothing : Neither ws r
+    pub told : thirteensIn ws ≡ thirteensIn r
+    pub good : Good (nodes w₀) r
+    pub silent : log ≡ []
 
   module _ (e : ℕ) (x : List ℕ) (v d t : ℕ → Option ℕ) where
     was-vacant : isVacant x ≡ true → Slot Holds net strategy (encrypted e) x v d t → (v ≡ nothing) × (d ≡ nothing) × (t ≡ nothing)
@@ -188,7 +188,7 @@ module _ (Holds : NetworkInfo → SubsetHandlingStrategy → Bool → List ℕ �
     was-there i (vacant j a b c) = absurd (false≢true (sym i ∙ j))
     was-there i (lives there k) = (there, k)
 
-  mut-ok : (w : List ℕ) (cur : ℕ) (vs ds ts : Tk) (e : ℕ) (p : Tape) → cur ≤ e → e ≤ cur + ahead w₀ → SimOf w cur vs ds ts → Good (nodes w₀) (p .rest)
+  pub mut-ok : (w : List ℕ) (cur : ℕ) (vs ds ts : Tk) (e : ℕ) (p : Tape) → cur ≤ e → e ≤ cur + ahead w₀ → SimOf w cur vs ds ts → Good (nodes w₀) (p .rest)
       → Gives (epochStateMut e w p) (λ _ v q l. Built e cur vs ds ts (p .rest) v (q .rest) l)
   unfolding epochStateMut netOf
   mut-ok w cur vs ds ts e p l u h g =

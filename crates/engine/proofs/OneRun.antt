@@ -60,7 +60,7 @@ all-told k e t t′ a b = fun-ext (λ i. fun-ext (λ q. go i q (eqb e i) refl))
 abbrev pub upto : (List Event → ℕ → ℕ → Option ℕ) → Tk → List Event → Tk
 upto k t h e q = orElse (t e q) (k h e q)
 
-upto-taken : (is : ℕ → Bool) (t : Tk) (x : Event) (h : List Event)
+pub upto-taken : (is : ℕ → Bool) (t : Tk) (x : Event) (h : List Event)
     → upto (taken is) (λ i q. orElse (t i q) (cond (eqb (x .epoch) i) (firstTaken is q (x .answers)) none)) h ≡ upto (taken is) t (x ∷ h)
 unfolding taken
 upto-taken is t x h = fun-ext (λ i. fun-ext (λ q. orElse-assoc (t i q) (cond (eqb (x .epoch) i) (firstTaken is q (x .answers)) none) (taken is h i q)))
@@ -123,7 +123,7 @@ share-is w scratch answers step sender epoch content proposer item ok = by (eqb 
         let c : content ≡ 3 → ⊥ = eqb-false content 3 k in
         absurd (omega (arith, low, high))
 
-named-below : (w scratch answers step : List ℕ) (sender epoch content proposer item : ℕ) → contentOk w scratch answers step sender epoch content proposer item ≡ true → proposer < nodes w
+pub named-below : (w scratch answers step : List ℕ) (sender epoch content proposer item : ℕ) → contentOk w scratch answers step sender epoch content proposer item ≡ true → proposer < nodes w
 unfolding contentOk
 named-below w scratch answers step sender epoch content proposer item ok =
     ltb-true proposer (nodes w) (and-true (within 1 3 content) (ltb proposer (nodes w)) (and-true (within 1 3 content && ltb proposer (nodes w)) _ ok .0) .1)
@@ -145,10 +145,10 @@ module _ (Holds : NetworkInfo → SubsetHandlingStrategy → Bool → List ℕ �
   HandOf = Hand (nodes w₀) (faulty w₀) (encryptedIn w₀)
 
   -- A CALL WITH REPLY 0 and its event
-  record Stepped (cur : ℕ) (vs ds ts : Tk) (x : Event) (w : List ℕ) : Type 0 where
-    sim : SimOf w (cur + length (x .batches)) (newV vs x) (newD ds x) (newT ts x)
-    dealt : Dealt (HandOf (newV vs x) (newD ds x) (newT ts x)) (x .batches) (thirteensIn (x .answers)) (x .fives)
-    votes : Voted (netOf w₀) (vs (x .epoch)) (ds (x .epoch)) (x .answers) []
+  pub record Stepped (cur : ℕ) (vs ds ts : Tk) (x : Event) (w : List ℕ) : Type 0 where
+    pub sim : SimOf w (cur + length (x .batches)) (newV vs x) (newD ds x) (newT ts x)
+    pub dealt : Dealt (HandOf (newV vs x) (newD ds x) (newT ts x)) (x .batches) (thirteensIn (x .answers)) (x .fives)
+    pub votes : Voted (netOf w₀) (vs (x .epoch)) (ds (x .epoch)) (x .answers) []
 
   sim-count : (w : List ℕ) (cur : ℕ) (vs ds ts : Tk) (log : List Entry) → SimOf w cur vs ds ts → SimOf (countFaults w log) cur vs ds ts
   unfolding countFaults
@@ -172,7 +172,7 @@ module _ (Holds : NetworkInfo → SubsetHandlingStrategy → Bool → List ℕ �
         votes = m .votes;
       }
 
-  proposed : (w : List ℕ) (cur : ℕ) (vs ds ts : Tk) → SimOf w cur vs ds ts → (scratch answers step : List ℕ) → proposeCall w scratch answers step .reply ≡ 0
+  pub proposed : (w : List ℕ) (cur : ℕ) (vs ds ts : Tk) → SimOf w cur vs ds ts → (scratch answers step : List ℕ) → proposeCall w scratch answers step .reply ≡ 0
       → Stepped cur vs ds ts (event cur none answers (proposeCall w scratch answers step .step)) (proposeCall w scratch answers step .state)
   proposed w cur vs ds ts h scratch answers step e =
       let p = propose-passes w scratch answers step e in
@@ -184,7 +184,7 @@ module _ (Holds : NetworkInfo → SubsetHandlingStrategy → Bool → List ℕ �
       (ap batchesOf (p .2 .written) ∙ batches-read step (run .log) (currentEpoch w))
       (ap fivesOf (p .2 .written) ∙ fives-read step (run .log) (currentEpoch w)))
 
-  handled : (w : List ℕ) (cur : ℕ) (vs ds ts : Tk) → SimOf w cur vs ds ts → (sender epoch content proposer item : ℕ) (scratch answers step : List ℕ)
+  pub handled : (w : List ℕ) (cur : ℕ) (vs ds ts : Tk) → SimOf w cur vs ds ts → (sender epoch content proposer item : ℕ) (scratch answers step : List ℕ)
       → messageCall w scratch answers step sender epoch content proposer item .reply ≡ 0
       → Stepped cur vs ds ts (event epoch (cond (eqb content 3) (some proposer) none) answers (messageCall w scratch answers step sender epoch content proposer item .step))
       (messageCall w scratch answers step sender epoch content proposer item .state)
@@ -224,7 +224,7 @@ module _ (Holds : NetworkInfo → SubsetHandlingStrategy → Bool → List ℕ �
           let n = h .beyond e b in
           vacant (rw (k .vacant e (omega (arith, h .current, h .shaped .ahead)) (omega (arith, h .current, h .shaped .ahead))) (zeros-vacant (nodes w))) (n .0) (n .1) (n .2)
 
-  skipped : (w : List ℕ) (cur : ℕ) (vs ds ts : Tk) → SimOf w cur vs ds ts → (target : ℕ) → skipReply target w ≡ 0 → SimOf (skipState target w) (max cur target) vs ds ts
+  pub skipped : (w : List ℕ) (cur : ℕ) (vs ds ts : Tk) → SimOf w cur vs ds ts → (target : ℕ) → skipReply target w ≡ 0 → SimOf (skipState target w) (max cur target) vs ds ts
   skipped w cur vs ds ts h target e = rw (skip-state target w e) (go (leb target cur) refl)
     where
       go : (t : Bool) → leb target cur ≡ t → SimOf (skipToEpoch target w) (max cur target) vs ds ts

@@ -1,32 +1,38 @@
--- THE PAPER'S RULE over one run without a failing call, `engine-rule`: complete epochs, accepted proposers, what is decrypted, epochs handed out with their entries, and votes. Assumes nothing.
+-- THE PAPER'S RULE over one run without a failing call, `engine-rule`: complete epochs, accepted proposers, what is decrypted, epochs handed out with their entries, kind 8, and votes. Assumes nothing.
 use Prim.Native.Nat.{ℕ, zero, suc, _+_, _≤_, _<_}
 use native.Mathlib.Omega.{arith}
 use mathlib.Core.Path.{_≡_, refl, sym, ap, _∙_, subst, fun-ext}
 use mathlib.Core.Logic.{_⊎_, inl, inr}
 use mathlib.Core.List.{List, _∷_, _++_, List·Memᴰ}
-use mathlib.Core.Bool.{Bool, true, false, cond, _||_, not}
+use mathlib.Core.Bool.{Bool, true, false, cond, _&&_, _||_, not}
 use mathlib.Core.Option.{Option, none}
+use lib.Dec.{leb}
 use lib.ListN.{getD}
 use borrow.Author.Tests.{eqb-true, le-leb}
 use Rattle.steps.specs.declared.network_info.NetworkInfo.{NetworkInfo}
 use Rattle.steps.specs.Network.{Network, numCorrect}
 use Rattle.steps.specs.Taken.{orElse, isThere, isTrue, firstTaken, onesFrom}
+use Rattle.steps.proofs.Laws.{and-true}
 use Rattle.subset.specs.Words.{statusAt}
 use Rattle.subset.specs.Rule.{settledFrom, isOver}
 use Rattle.subset.proofs.Rule.{blank-over}
 use Rattle.epoch.specs.declared.SubsetHandlingStrategy.{SubsetHandlingStrategy}
+use Rattle.epoch.specs.declared.SubsetHandlingStrategy.the-variants.{Incremental, AllAtEnd}
 use Rattle.epoch.specs.Words.{isComplete, isAccepted, loadDecryption}
+use Rattle.epoch.specs.Epoch.{handlesNow}
 use Rattle.epoch.proofs.Holds.{Going, Done, Holds}
-use Rattle.epoch.proofs.Laws.{epoch-laws}
+use Rattle.epoch.proofs.Laws.{epoch-laws, settled-known}
+use Rattle.epoch.proofs.Eights.{eightsOf, true-there}
 use Rattle.engine.specs.Schedule.{scheduleOf, useOnEpoch}
-use Rattle.engine.specs.State.{ahead, currentEpoch, netOf, encryptedIn, epochWords}
+use Rattle.engine.specs.State.{ahead, currentEpoch, netOf, strategyOf, encryptedIn, epochWords}
 use Rattle.engine.specs.Create.{Numbers, created, createState}
 use Rattle.engine.specs.History.{Call, turns, noneFails, Event, history, valueTaken, decisionTaken, decrypted, plaintext, Handed, handed}
 use Rattle.engine.specs.Claim.{Made, Sound, historyOf, encryptedOf}
-use Rattle.engine.specs.Outputs.{pairsIn, pairsRead, plaintextOf}
-use Rattle.engine.specs.Rule.{stateAfterAll, endOf, netIn, Votes, EngineRule}
+use Rattle.engine.specs.Outputs.{pairsIn, pairsRead, plaintextOf, timesAskedIn, isHandled}
+use Rattle.engine.specs.Rule.{stateAfterAll, endOf, netIn, strategyIn, Votes, EngineRule}
 use Rattle.engine.proofs.Created.{create-passes}
 use Rattle.engine.proofs.Entries.{entries-given, slot-decrypted}
+use Rattle.engine.proofs.Eights.{run-eighted}
 use Rattle.engine.proofs.Handout.{Tk, InAll, all-at, all-handed}
 use Rattle.engine.proofs.Invariant.{Slot, vacant, lives, Sim}
 use Rattle.engine.proofs.OneRun.{AllVoted, voted-at, run-all}
@@ -44,6 +50,19 @@ record Known (w₀ : List ℕ) (c : Numbers) (cs : List Call) : Type 0 where
   nodes : netOf w₀ .«num_nodes» ≡ c .nodes
   faulty : netOf w₀ .«num_faulty» ≡ c .faulty
   schedule : encryptedIn w₀ ≡ useOnEpoch (scheduleOf (c .schedule) (c .first) (c .second))
+  eights : (e q : ℕ) → q < netOf w₀ .«num_nodes»
+      → timesAskedIn 8 (history (c .epoch) (turns w₀ cs)) e q
+      ≡ eightsOf (netOf w₀) (strategyOf w₀) (encryptedIn w₀ e) (valueTaken (history (c .epoch) (turns w₀ cs)) e) (decisionTaken (history (c .epoch) (turns w₀ cs)) e) q
+
+-- before any call
+none-eight : (net : NetworkInfo) (strategy : SubsetHandlingStrategy) (encrypted : Bool) (q : ℕ) → eightsOf net strategy encrypted (λ _. none) (λ _. none) q ≡ 0
+unfolding isTrue
+none-eight net strategy encrypted q = go encrypted (handlesNow strategy (isOver net (λ _. none) (λ _. none)))
+  where
+    go : (x y : Bool) → _≡_ {A = ℕ} (cond (x && (y && false)) 1 0) 0
+    go true true = refl
+    go true false = refl
+    go false y = refl
 
 known : (m : Made) → Sound m → Known (createState (m .numbers) (m .words)) (m .numbers) (m .calls)
 unfolding orElse netOf created
@@ -60,6 +79,12 @@ known m s =
       nodes = refl;
       faulty = refl;
       schedule = encrypted-as (m .numbers);
+      eights = λ e q l.
+          omega (
+            arith,
+            run-eighted (created (m .numbers)) network (m .calls) (created (m .numbers)) (m .numbers .epoch) untaken untaken untaken (started Holds epoch-laws (m .numbers)) fine e q l,
+            none-eight (netOf (created (m .numbers))) (strategyOf (created (m .numbers))) (encryptedIn (created (m .numbers)) e) q,
+          );
     })
 
 -- ONE EPOCH
@@ -159,6 +184,35 @@ pub plain-ok : (m : Made) → Sound m → (x : Handed) → List·Memᴰ x (hande
     → encryptedOf m (x .batch .epoch) ≡ false → pairsIn (x .batch .entries) ≡ pairsRead (valueTaken (historyOf m) (x .batch .epoch)) (x .thirteens)
 plain-ok m s x i e = entries-ok m s x i ∙ ap (λ (t : ℕ → Option ℕ). pairsRead t (x .thirteens)) (fun-ext (λ p. is-value (encryptedOf m) (historyOf m) (x .batch .epoch) p e))
 
+-- KIND 8
+pub eights-ok : (m : Made) → Sound m → (e p : ℕ) → p < netIn m .«num_nodes»
+    → timesAskedIn 8 (historyOf m) e p ≡ cond (encryptedOf m e && isHandled (netIn m) (strategyIn m) (valueTaken (historyOf m) e) (decisionTaken (historyOf m) e) p) 1 0
+unfolding isHandled
+eights-ok m s e p l = let k = known m s in rw (← k .schedule) (k .eights e p l)
+
+over-settled : (net : NetworkInfo) (v d : ℕ → Option ℕ) → isOver net v d ≡ true → settledFrom v d (net .«num_nodes») 0 ≡ true
+unfolding isOver
+over-settled net v d o = and-true (settledFrom v d (net .«num_nodes») 0) (leb (numCorrect net) (onesFrom d (net .«num_nodes») 0)) o .0
+
+-- of an epoch that is over those decided 1 are handled
+over-handled : (net : NetworkInfo) (strategy : SubsetHandlingStrategy) (v d : ℕ → Option ℕ) → isOver net v d ≡ true → (q : ℕ) → q < net .«num_nodes» → isHandled net strategy v d q ≡ isTrue (d q)
+unfolding isHandled handlesNow
+over-handled net strategy v d o q l = rw o (go strategy)
+  where
+    known : isTrue (d q) && isThere (v q) ≡ isTrue (d q)
+    known = sym (true-there (v q) (d q) (settled-known v d (net .«num_nodes») 0 (over-settled net v d o) q (omega arith) (omega arith)))
+
+    go : (s : SubsetHandlingStrategy) → handlesNow s true && (isTrue (d q) && isThere (v q)) ≡ isTrue (d q)
+    go Incremental = known
+    go AllAtEnd = known
+
+pub eights-over-ok : (m : Made) → Sound m → (e p : ℕ) → p < netIn m .«num_nodes»
+    → isOver (netIn m) (valueTaken (historyOf m) e) (decisionTaken (historyOf m) e) ≡ true
+    → timesAskedIn 8 (historyOf m) e p ≡ cond (encryptedOf m e && isTrue (decisionTaken (historyOf m) e p)) 1 0
+eights-over-ok m s e p l o =
+    eights-ok m s e p l
+    ∙ ap (λ x. cond (encryptedOf m e && x) 1 0) (over-handled (netIn m) (strategyIn m) (valueTaken (historyOf m) e) (decisionTaken (historyOf m) e) o p l)
+
 -- VOTES
 pub votes-ok : (m : Made) → Sound m → (h : List Event) (x : Event) (l : List Event) → historyOf m ≡ h ++ (x ∷ l) → Votes (netIn m) h x
 unfolding orElse firstTaken
@@ -176,4 +230,6 @@ engine-rule m s = record {
   handedOut = handed-ok m s;
   entries = entries-ok m s;
   plainEntries = plain-ok m s;
+  eights = eights-ok m s;
+  eightsOver = eights-over-ok m s;
 }

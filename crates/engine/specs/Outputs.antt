@@ -1,12 +1,17 @@
 -- What the paper's rule (Rule.antt) compares an epoch's output with, told from a run's history.
 use Prim.Native.Nat.{ℕ, _+_}
 use mathlib.Core.List.{List, [], _∷_, _++_}
-use mathlib.Core.Bool.{cond}
+use mathlib.Core.Bool.{Bool, cond, _&&_}
 use mathlib.Core.Option.{Option, none, some}
 use lib.Dec.{eqb}
+use Rattle.steps.specs.declared.network_info.NetworkInfo.{NetworkInfo}
 use Rattle.steps.specs.Answers.{Rec}
+use Rattle.steps.specs.Taken.{isThere, isTrue}
 use Rattle.steps.specs.Times.{timesAsked}
+use Rattle.subset.specs.Rule.{isOver}
+use Rattle.epoch.specs.declared.SubsetHandlingStrategy.{SubsetHandlingStrategy}
 use Rattle.epoch.specs.Words.{DecryptionState, missing, ongoing, complete}
+use Rattle.epoch.specs.Epoch.{handlesNow}
 use Rattle.engine.specs.History.{Entry, Event}
 
 -- a proposer and its plaintext, if it has one
@@ -37,3 +42,7 @@ plaintextOf (complete x) = some x
 unfoldable pub timesAskedIn : ℕ → List Event → ℕ → ℕ → ℕ
 timesAskedIn kind [] e p = 0
 timesAskedIn kind (x ∷ xs) e p = cond (eqb (x .epoch) e) (timesAsked kind p (x .answers)) 0 + timesAskedIn kind xs e p
+
+-- whether p's contribution has been handled: it is decided 1 and its value is here. "AllAtEnd keeps contributions […] until Done"
+unfoldable pub isHandled : NetworkInfo → SubsetHandlingStrategy → (ℕ → Option ℕ) → (ℕ → Option ℕ) → ℕ → Bool
+isHandled net strategy value decision p = handlesNow strategy (isOver net value decision) && (isTrue (decision p) && isThere (value p))

@@ -3,19 +3,20 @@
 use Prim.Native.Nat.{ℕ, _+_, _≤_, _<_}
 use mathlib.Core.Path.{_≡_}
 use mathlib.Core.List.{List, [], _∷_, _++_, List·Memᴰ}
-use mathlib.Core.Bool.{Bool, true, false, cond}
+use mathlib.Core.Bool.{Bool, true, false, cond, _&&_}
 use mathlib.Core.Option.{Option, none, some}
 use Rattle.steps.specs.declared.network_info.NetworkInfo.{NetworkInfo}
 use Rattle.steps.specs.Network.{numCorrect}
 use Rattle.steps.specs.Table.{within}
 use Rattle.steps.specs.Taken.{orElse, isTrue, firstTaken, ofValue, asked, onesFrom}
 use Rattle.subset.specs.Rule.{isOver}
+use Rattle.epoch.specs.declared.SubsetHandlingStrategy.{SubsetHandlingStrategy}
 use Rattle.epoch.specs.Words.{isComplete, isAccepted, loadDecryption}
-use Rattle.engine.specs.State.{nodes, ahead, currentEpoch, netOf, epochWords, stateOk}
+use Rattle.engine.specs.State.{nodes, ahead, currentEpoch, netOf, strategyOf, epochWords, stateOk}
 use Rattle.engine.specs.Create.{Numbers, createReply, createState}
 use Rattle.engine.specs.History.{Call, stateAfter, Event, valueTaken, decisionTaken, plaintext, Handed, handed}
 use Rattle.engine.specs.Claim.{Made, Sound, historyOf, encryptedOf}
-use Rattle.engine.specs.Outputs.{pairsIn, pairsRead, plaintextOf}
+use Rattle.engine.specs.Outputs.{pairsIn, pairsRead, plaintextOf, timesAskedIn, isHandled}
 
 -- the state that a list of calls leaves
 unfoldable pub stateAfterAll : List ℕ → List Call → List ℕ
@@ -27,6 +28,9 @@ endOf m = stateAfterAll (createState (m .numbers) (m .words)) (m .calls)
 
 abbrev pub netIn : Made → NetworkInfo
 netIn m = netOf (createState (m .numbers) (m .words))
+
+abbrev pub strategyIn : Made → SubsetHandlingStrategy
+strategyIn m = strategyOf (createState (m .numbers) (m .words))
 
 -- the decision for p in x's epoch, as far as the answers 5 and 6 of x bring it: before the round of votes 0
 abbrev pub decidedBefore7 : List Event → Event → ℕ → Option ℕ
@@ -67,6 +71,15 @@ pub record PaperRule (m : Made) : Type 0 where
   pub plainEntries : (x : Handed) → List·Memᴰ x (handed (m .numbers .nodes) (encryptedOf m) (historyOf m))
       → encryptedOf m (x .batch .epoch) ≡ false
       → pairsIn (x .batch .entries) ≡ pairsRead (valueTaken (historyOf m) (x .batch .epoch)) (x .thirteens)
+  -- "8 ciphertext reads": in an encrypted epoch each pair of the output is read once. In every epoch, whatever became of it, all calls together
+  -- have asked kind 8 once about each proposer whose contribution has been handled and about no other, and never where the epoch is plain
+  pub eights : (e p : ℕ) → p < netIn m .«num_nodes»
+      → timesAskedIn 8 (historyOf m) e p
+      ≡ cond (encryptedOf m e && isHandled (netIn m) (strategyIn m) (valueTaken (historyOf m) e) (decisionTaken (historyOf m) e) p) 1 0
+  -- in an epoch that is over, so in each one that is complete (`complete`) or was handed out (`handedOut`): about each proposer decided 1
+  pub eightsOver : (e p : ℕ) → p < netIn m .«num_nodes»
+      → isOver (netIn m) (valueTaken (historyOf m) e) (decisionTaken (historyOf m) e) ≡ true
+      → timesAskedIn 8 (historyOf m) e p ≡ cond (encryptedOf m e && isTrue (decisionTaken (historyOf m) e p)) 1 0
 
 abbrev pub EngineRule : Type 0
 EngineRule = (m : Made) → Sound m → PaperRule m

@@ -56,6 +56,7 @@ held-same old n w w′ v d s h = record {
       record { index = k .index; below = rw count (k .below); who = arrival (k .index) ∙ k .who };
   entries = λ i q l e. rw (value q) (h .entries i q (rw count at l) (sym (arrival i) ∙ e));
   once = λ i j l r e. h .once i j (rw count at l) (rw count at r) (sym (arrival i) ∙ e ∙ arrival j);
+  fresh = λ i l. ap old (arrival i) ∙ h .fresh i (rw count at l);
 }
   where
     count : getD w′ countAt 0 ≡ getD w countAt 0
@@ -76,14 +77,14 @@ record Accepting (encrypted : Bool) (n p : ℕ) (w : List ℕ) (v t : ℕ → Op
   text : TextOk encrypted (loadDecryption n w′ p) true (v p) (t′ p)
   others : (q : ℕ) → (q ≡ p → ⊥) → t′ q ≡ t q
 
-record Contributed (encrypted : Bool) (n p : ℕ) (w : List ℕ) (v t : ℕ → Option ℕ) (who : Option ℕ) (ws : List Rec) (w′ : List ℕ) (r : List Rec) : Type 0 where
-  t′ : ℕ → Option ℕ
-  who′ : Option ℕ
-  opening : Opening t who ws t′ who′ r
-  same : SubsetSame n w w′
-  texts : TextsOk encrypted n w′ v t′
-  here : isAccepted w′ p ≡ true
-  others : (q : ℕ) → (q ≡ p → ⊥) → isAccepted w′ q ≡ isAccepted w q
+pub record Contributed (encrypted : Bool) (n p : ℕ) (w : List ℕ) (v t : ℕ → Option ℕ) (who : Option ℕ) (ws : List Rec) (w′ : List ℕ) (r : List Rec) : Type 0 where
+  pub t′ : ℕ → Option ℕ
+  pub who′ : Option ℕ
+  pub opening : Opening t who ws t′ who′ r
+  pub same : SubsetSame n w w′
+  pub texts : TextsOk encrypted n w′ v t′
+  pub here : isAccepted w′ p ≡ true
+  pub others : (q : ℕ) → (q ≡ p → ⊥) → isAccepted w′ q ≡ isAccepted w q
 
 accepting-then : (encrypted : Bool) (n p : ℕ) (w w₁ : List ℕ) (v t : ℕ → Option ℕ) (who : Option ℕ) (ws r : List Rec) → length w ≡ epochLength n → TextsOk encrypted n w v t
     → Accepting encrypted n p w v t who ws w₁ r → Contributed encrypted n p w v t who ws (accept w₁ p) r
@@ -159,7 +160,7 @@ module _ (net : NetworkInfo) (p value : ℕ) (w : List ℕ) (u : Tape) (v t : �
     others = λ q ne. refl;
   }
 
-  contribution-ok : (strategy : SubsetHandlingStrategy) (encrypted : Bool) → v p ≡ some value → TextsOk encrypted n w v t
+  pub contribution-ok : (strategy : SubsetHandlingStrategy) (encrypted : Bool) → v p ≡ some value → TextsOk encrypted n w v t
       → After (handleContribution net strategy encrypted p value w u) (λ _ w′ z. Contributed encrypted n p w v t who (u .rest) w′ (z .rest))
   unfolding handleContribution
   contribution-ok strategy true e k =
@@ -182,7 +183,7 @@ pub record Looped (encrypted : Bool) (n m i : ℕ) (w : List ℕ) (v d t : ℕ �
   pub outs : ((q : ℕ) → q < n → isAccepted w q ≡ true → isOut v d q ≡ true) → (q : ℕ) → q < n → isAccepted w′ q ≡ true → isOut v d q ≡ true
 
 -- an output is of a value
-output-value : (a b : Option ℕ) (x : ℕ) → outputOf a b ≡ some x → a ≡ some x
+pub output-value : (a b : Option ℕ) (x : ℕ) → outputOf a b ≡ some x → a ≡ some x
 output-value none b x e = let z : _≡_ {A = ℕ} 0 1 = cc in absurd (omega arith)
 output-value (some v) none x e = let z : _≡_ {A = ℕ} 0 1 = cc in absurd (omega arith)
 output-value (some v) (some zero) x e = let z : _≡_ {A = ℕ} 0 1 = cc in absurd (omega arith)

@@ -133,6 +133,7 @@ module _ (n : ℕ) (w : List ℕ) where
     listed = λ q l t f. absurd (false≢true (sym f ∙ t));
     entries = λ i q l e. absurd (omega (arith, counted));
     once = λ i j l r e. absurd (omega (arith, counted));
+    fresh = λ i l. absurd (omega (arith, counted));
   }
     where
       sized : length cut ≡ epochLength n

@@ -134,7 +134,7 @@ dealt-not : (encrypted : Bool) (n p : ℕ) (w : List ℕ) (a : Bool) (v t : Opti
 dealt-not encrypted n p w a v t ws h = record { o = none; ran = record { opens = opens-none ws; past = past-same decryptionKinds ws }; stays = stays-same n p w; text = rw (orElse-none t) h }
 
 module _ (net : NetworkInfo) (p : ℕ) (w : List ℕ) where
-  process-after : (r : Run ThresholdDecrypt (Option ℕ)) (P : List ℕ → Tape → Type 0) → After r (λ o td z. P (storeDecryption (net .«num_nodes») w p (entryAfter (going o) td)) z)
+  pub process-after : (r : Run ThresholdDecrypt (Option ℕ)) (P : List ℕ → Tape → Type 0) → After r (λ o td z. P (storeDecryption (net .«num_nodes») w p (entryAfter (going o) td)) z)
       → After (processDecryption net p w r) (λ _ w′ z. P w′ z)
   unfolding processDecryption onward onwardAs
   process-after r P h = go (r .verdict) h

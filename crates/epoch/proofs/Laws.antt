@@ -196,20 +196,20 @@ module _ (net : NetworkInfo) (strategy : SubsetHandlingStrategy) (encrypted : Bo
       called-then (u .rest) done w₁ z g (a .0) (a .1 .0) (a .1 .1)))))
 
 -- any call of the subset
-record Subset (net : NetworkInfo) (call : List ℕ → Tape → Run (List ℕ) Bool) : Type 0 where
-  called : (old : ℕ → Bool) (w : List ℕ) (v d : ℕ → Option ℕ) → Held old (net .«num_nodes») w v d → (u : Tape) → Good (net .«num_nodes») (u .rest)
+pub record Subset (net : NetworkInfo) (call : List ℕ → Tape → Run (List ℕ) Bool) : Type 0 where
+  pub called : (old : ℕ → Bool) (w : List ℕ) (v d : ℕ → Option ℕ) → Held old (net .«num_nodes») w v d → (u : Tape) → Good (net .«num_nodes») (u .rest)
       → getD w decidedAt 0 ≡ cond (isOver net v d) 1 0 → After (call w u) (λ done w₁ z. Called old net v d (u .rest) done w₁ (z .rest))
-  orderly : (w : List ℕ) (u : Tape) → Orderly (Frame (net .«num_nodes») w) subsetKinds u (call w u)
+  pub orderly : (w : List ℕ) (u : Tape) → Orderly (Frame (net .«num_nodes») w) subsetKinds u (call w u)
 
-proposes : (net : NetworkInfo) → Subset net (proposeSubset net 22)
+pub proposes : (net : NetworkInfo) → Subset net (proposeSubset net 22)
 unfolding callRule
 proposes net = record { called = λ old w v d h u g e. call-ok old net w v d h u g e proposing; orderly = λ w u. propose-subset-runs net 22 w w u (λ i o. refl) }
 
-broadcasts : (net : NetworkInfo) (p : ℕ) → Subset net (handleSubset net 23 1 p)
+pub broadcasts : (net : NetworkInfo) (p : ℕ) → Subset net (handleSubset net 23 1 p)
 unfolding callRule
 broadcasts net p = record { called = λ old w v d h u g e. call-ok old net w v d h u g e (broadcasting p); orderly = λ w u. handle-subset-runs net 23 w 1 p w u (λ i o. refl) }
 
-agrees : (net : NetworkInfo) (p : ℕ) → Subset net (handleSubset net 23 2 p)
+pub agrees : (net : NetworkInfo) (p : ℕ) → Subset net (handleSubset net 23 2 p)
 unfolding callRule
 agrees net p = record { called = λ old w v d h u g e. call-ok old net w v d h u g e (agreeing p); orderly = λ w u. handle-subset-runs net 23 w 2 p w u (λ i o. refl) }
 
@@ -328,7 +328,7 @@ text-word encrypted n w q a v t e h = go encrypted (rw (eqb-true (getD w (decryp
     go false h = h .1
 
 -- where every agreement has decided and every value decided 1 is here
-settled-known : (v d : ℕ → Option ℕ) (m p : ℕ) → settledFrom v d m p ≡ true → (q : ℕ) → p ≤ q → q < p + m → isTrue (d q) ≡ true → isThere (v q) ≡ true
+pub settled-known : (v d : ℕ → Option ℕ) (m p : ℕ) → settledFrom v d m p ≡ true → (q : ℕ) → p ≤ q → q < p + m → isTrue (d q) ≡ true → isThere (v q) ≡ true
 unfolding settledFrom
 settled-known v d zero p s q l h t = absurd (omega arith)
 settled-known v d (suc m) p s q l h t = go (eqb q p) refl (settled-known v d m (p + 1) (parts .1) q)

@@ -13,5 +13,6 @@ pub mod Contributions
 pub mod Finishing
 pub mod Holds
 pub mod Laws
+pub mod Eights
 pub mod Batches
 pub mod Bounded

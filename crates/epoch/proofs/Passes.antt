@@ -8,19 +8,20 @@ use native.Mathlib.Omega.{arith}
 use lib.ListN.{getD, set}
 use lib.Seq.{getD-set-other}
 use lib.Dec.{leb, ltb, eqb}
-use borrow.Author.Tests.{leb-true, ne-eqb, lt-leb}
+use borrow.Author.Tests.{leb-true, le-leb, ne-eqb, lt-leb}
 use Rattle.steps.specs.declared.network_info.NetworkInfo.{NetworkInfo}
 use Rattle.steps.specs.declared.reader.Output.{Output}
 use Rattle.steps.specs.declared.reader.Output.the-variants.{Missing, Value}
 use Rattle.steps.specs.Network.{isValidator, numCorrect}
-use Rattle.steps.specs.Answers.{Tape}
+use Rattle.steps.specs.Answers.{Rec, Tape}
 use Rattle.steps.specs.Table.{within}
 use Rattle.steps.specs.Steps.{fault}
 use Rattle.steps.specs.Runs.{Verdict, going, refused, failed, Run}
 use Rattle.steps.specs.Parts.{isPart}
 use Rattle.steps.specs.Taken.{ofValue, ofDecision}
 use Rattle.steps.proofs.Laws.{and-true}
-use Rattle.steps.proofs.Past.{Others}
+use Rattle.steps.proofs.Past.{Past, Others}
+use Rattle.steps.proofs.Times.{past-more}
 use Rattle.decryption.specs.declared.ThresholdDecrypt.{ThresholdDecrypt}
 use Rattle.decryption.specs.Decrypt.{new, isSender, withInput, withEnd, countShares, setCiphertext, checkShare, removeFrom, ownShare, startWith, combine, tryWith, startDecryption, tryOutput as tryCombine, storeShare, handleMessage as handleShare}
 use Rattle.decryption.proofs.Cycle.{Does}
@@ -44,6 +45,10 @@ subsetKinds k = within 3 7 k || isPart k
 
 abbrev pub decryptionKinds : ℕ → Bool
 decryptionKinds k = within 8 12 k
+
+-- and those that its entry reads, after the 8
+abbrev pub entryKinds : ℕ → Bool
+entryKinds k = within 9 12 k
 
 or-part : (x y : Bool) → y ≡ true → x || y ≡ true
 or-part true y e = refl
@@ -87,6 +92,15 @@ decryption-decision = decryption-low 5 7 (omega arith)
 
 pub decryption-thirteen : Others decryptionKinds (λ k. eqb k 13)
 decryption-thirteen k e = ne-eqb k 13 (λ z. omega (arith, leb-true k 12 (and-true (leb 8 k) (leb k 12) e .1)))
+
+pub entry-eight : Others entryKinds (λ k. eqb k 8)
+entry-eight k e = ne-eqb k 8 (λ z. omega (arith, leb-true 9 k (and-true (leb 9 k) (leb k 12) e .0)))
+
+pub entry-past : {ws r : List Rec} → Past entryKinds ws r → Past decryptionKinds ws r
+entry-past p =
+    past-more entryKinds decryptionKinds (λ k e.
+    let two = and-true (leb 9 k) (leb k 12) e in
+    rw (le-leb 8 k (omega (arith, leb-true 9 k (two .0))), two .1)) p
 
 -- THE WORDS THAT ARE NOT THE SUBSET'S
 pub record Outside (n i : ℕ) : Type 0 where
@@ -225,7 +239,7 @@ module _ (net : NetworkInfo) (error : ℕ) (w₀ : List ℕ) where
 
 -- THRESHOLD DECRYPTION
 abbrev Decrypts : {A : Type 0} → (ThresholdDecrypt → Tape → Run ThresholdDecrypt A) → Type 0
-Decrypts k = (td : ThresholdDecrypt) (p : Tape) → Orderly Any decryptionKinds p (k td p)
+Decrypts k = (td : ThresholdDecrypt) (p : Tape) → Orderly Any entryKinds p (k td p)
 
 set-runs : (proposer ciphertext : ℕ) → Decrypts (setCiphertext proposer ciphertext)
 unfolding setCiphertext

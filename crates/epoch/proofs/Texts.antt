@@ -21,7 +21,7 @@ use Rattle.decryption.proofs.Cycle.{Does}
 use Rattle.decryption.proofs.Errors.{handle-keeps}
 use Rattle.subset.proofs.After.{AfterAs, After, after-map, after-cond, after-onward}
 use Rattle.epoch.specs.Epoch.{inputCiphertext}
-use Rattle.epoch.proofs.Passes.{decryptionKinds, share-runs, input-runs}
+use Rattle.epoch.proofs.Passes.{decryptionKinds, entry-past, share-runs, input-runs}
 
 -- AN ANSWER THAT WAS READ: p's first record, behind which u stands
 pub record Reads (p : Tape) (kind b : ℕ) (u : Tape) : Type 0 where
@@ -234,14 +234,14 @@ module _ (net : NetworkInfo) (proposer : ℕ) where
   pub input-ran : (value : ℕ) (td : ThresholdDecrypt) (p : Tape) → After (inputCiphertext net proposer value td p) (λ o td′ z. Ran (p .rest) o (z .rest))
   input-ran value td p =
       after-map (inputCiphertext net proposer value td p) _ _
-      (after-with (inputCiphertext net proposer value td p) _ (λ td′ z. Past decryptionKinds (p .rest) (z .rest)) (input-runs net proposer value td p .past) (input-opens value td p))
+      (after-with (inputCiphertext net proposer value td p) _ (λ td′ z. Past decryptionKinds (p .rest) (z .rest)) (entry-past (input-runs net proposer value td p .past)) (input-opens value td p))
       (λ o td′ z h. record { opens = h .0; past = h .1 })
 
   pub share-ran : (sender share : ℕ) (td : ThresholdDecrypt) (p : Tape) → After (handleShare net proposer sender share td p) (λ o td′ z. SharedWith td td′ (p .rest) o (z .rest))
   share-ran sender share td p =
       let run = handleShare net proposer sender share td p in
       after-map run _ _
-      (after-with run _ (λ td′ z. Past decryptionKinds (p .rest) (z .rest) × (td′ .ciphertext ≡ td .ciphertext)) (share-runs net proposer sender share td p .past, handle-keeps net proposer sender share td p)
+      (after-with run _ (λ td′ z. Past decryptionKinds (p .rest) (z .rest) × (td′ .ciphertext ≡ td .ciphertext)) (entry-past (share-runs net proposer sender share td p .past), handle-keeps net proposer sender share td p)
       (after-both run _ _ (share-opens sender share td p) (go (eqb (td .ciphertext) 0) refl)))
       (λ o td′ z h. record { ran = record { opens = h .0 .0; past = h .1 .0 }; early = h .0 .1; keeps = h .1 .1 })
     where

@@ -7,6 +7,7 @@ pub mod Reading
 pub mod Chain
 pub mod Chains
 pub mod Past
+pub mod Times
 pub mod Counting
 pub mod Finished
 pub mod ReadBack

@@ -326,6 +326,7 @@ module _ (old : ℕ → Bool) where
     once = λ i j l r e.
         h .once i j (rw (word countAt (λ e. omega arith)) at l) (rw (word countAt (λ e. omega arith)) at r)
         (sym (word (arrivalAt n i) (λ e. omega arith)) ∙ e ∙ word (arrivalAt n j) (λ e. omega arith));
+    fresh = λ i l. ap old (word (arrivalAt n i) (λ e. omega arith)) ∙ h .fresh i (rw (word countAt (λ e. omega arith)) at l);
   }
     where
       word : (i : ℕ) → (i ≡ decidedAt → ⊥) → getD (set w decidedAt 1) i 0 ≡ getD w i 0

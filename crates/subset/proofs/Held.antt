@@ -58,6 +58,8 @@ module _ (old : ℕ → Bool) where
     pub entries : (i q : ℕ) → i < getD w countAt 0 → getD w (arrivalAt n i) 0 ≡ q → (q < n) × (outputOf (v q) (d q) ≡ some (getD w (valueAt n q) 0))
     -- nobody stands there twice
     pub once : (i j : ℕ) → i < getD w countAt 0 → j < getD w countAt 0 → getD w (arrivalAt n i) 0 ≡ getD w (arrivalAt n j) 0 → i ≡ j
+    -- nor any of the old ones
+    pub fresh : (i : ℕ) → i < getD w countAt 0 → old (getD w (arrivalAt n i) 0) ≡ false
 
   -- A MOVE of p's proposal, which has not been output before
   module _ (n p : ℕ) (w : List ℕ) (v d v′ d′ : ℕ → Option ℕ) (h : Held n w v d) (inside : p < n) (same : (q : ℕ) → (q ≡ p → ⊥) → (v′ q ≡ v q) × (d′ q ≡ d q))
@@ -134,6 +136,7 @@ module _ (old : ℕ → Bool) where
           record { index = k .index; below = rw counts (k .below); who = arrivals (k .index) ∙ k .who };
       entries = λ i q l e. old-entry q (h .entries i q (rw counts at l) (sym (arrivals i) ∙ e)) .1;
       once = λ i j l r e. h .once i j (rw counts at l) (rw counts at r) (sym (arrivals i) ∙ e ∙ arrivals j);
+      fresh = λ i l. ap old (arrivals i) ∙ h .fresh i (rw counts at l);
     }
       where
         agree : (q : ℕ) → isOut v d q ≡ isOut v′ d′ q
@@ -238,6 +241,15 @@ module _ (old : ℕ → Bool) where
               let b : j ≡ c → ⊥ = eqb-false j c t in
               h .once i j (rw (h .count) (omega arith)) (rw (h .count) (omega arith)) (sym (arrivals′ i a) ∙ e ∙ arrivals′ j b)
 
+      fresh′ : (i : ℕ) → i < c + 1 → old (getD joined (arrivalAt n i) 0) ≡ false
+      fresh′ i l = go (eqb i c) refl
+        where
+          go : (y : Bool) → eqb i c ≡ y → old (getD joined (arrivalAt n i) 0) ≡ false
+          go true t = ap (λ j. old (getD joined (arrivalAt n j) 0)) (eqb-true i c t) ∙ ap old (add-arrival n stored p x c counted room inside sized) ∙ new-here
+          go false t =
+              let ne : i ≡ c → ⊥ = eqb-false i c t in
+              ap old (arrivals′ i ne) ∙ h .fresh i (rw (h .count) (omega arith))
+
       held-joined : Held n joined v′ d′
       held-joined = record {
         size = add-size n stored p x c counted room ∙ sized;
@@ -248,6 +260,7 @@ module _ (old : ℕ → Bool) where
         listed = lists;
         entries = λ i q l e. entries′ i q (rw counts′ at l) e;
         once = λ i j l r e. once′ i j (rw counts′ at l) (rw counts′ at r) e;
+        fresh = λ i l. fresh′ i (rw counts′ at l);
       }
 
       decided-joined : getD joined decidedAt 0 ≡ getD stored decidedAt 0

@@ -184,6 +184,7 @@ blank-held old f n = record {
   listed = λ q l t f. absurd (false≢true t);
   entries = λ i q l e. absurd (omega (arith, blank-word n countAt (λ e. omega arith)));
   once = λ i j l r e. absurd (omega (arith, blank-word n countAt (λ e. omega arith)));
+  fresh = λ i l. f (getD (blank n) (arrivalAt n i) 0);
 }
 
 blank-known : (net : NetworkInfo) → Network net → Known net (blank (net .«num_nodes»)) nothing nothing
