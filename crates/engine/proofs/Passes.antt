@@ -12,7 +12,7 @@ use Rattle.steps.specs.Steps.{written}
 use Rattle.steps.specs.Table.{tableOk}
 use Rattle.steps.specs.Runs.{Verdict, going, refused, failed, Run}
 use Rattle.steps.proofs.Laws.{and-true}
-use Rattle.engine.specs.State.{nodes, currentEpoch, lastEpoch, stateOk}
+use Rattle.engine.specs.State.{nodes, currentEpoch, scratchOf, lastEpoch, stateOk}
 use Rattle.engine.specs.HoneyBadger.{propose, handleMessage}
 use Rattle.engine.specs.Calls.{After, zeroed, countFaults, isEnd, concludeAs, conclude, proposeCall, contentOk, contentOf, messageCall, skipReply}
 use Rattle.engine.specs.Laws.{isRefusal, oneOf, proposeFailures, proposeReplies, messageFailures, messageReplies}
@@ -64,7 +64,7 @@ module _ (w scratch answers step : List ℕ) where
   unfolding proposeCall oneOf
   propose-passes =
       through (not (stateOk w)) _ _ P (λ _ z. absurd (omega arith))
-      (λ ok. through (ltb (length scratch) (length w)) _ _ P (λ _ z. absurd (omega arith))
+      (λ ok. through (ltb (length scratch) (scratchOf w)) _ _ P (λ _ z. absurd (omega arith))
       (λ _. through (not (tableOk (nodes w) answers)) _ _ P (λ _ z. absurd (omega arith))
       (λ table. through (ltb lastEpoch (currentEpoch w)) _ _ P (λ _ z. absurd (omega arith))
       (λ _ z. (
@@ -85,7 +85,7 @@ module _ (w scratch answers step : List ℕ) where
     unfolding messageCall oneOf
     message-passes =
         through (not (stateOk w)) _ _ P (λ _ z. absurd (omega arith))
-        (λ ok. through (ltb (length scratch) (length w)) _ _ P (λ _ z. absurd (omega arith))
+        (λ ok. through (ltb (length scratch) (scratchOf w)) _ _ P (λ _ z. absurd (omega arith))
         (λ _. through (not (tableOk (nodes w) answers)) _ _ P (λ _ z. absurd (omega arith))
         (λ table. through (leb (nodes w) sender) _ _ P (λ _ z. absurd (omega arith))
         (λ sent. through (not (contentOk w scratch answers step sender epoch content proposer item)) _ _ P (λ _ z. absurd (omega arith))

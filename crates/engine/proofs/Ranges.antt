@@ -20,7 +20,7 @@ use Rattle.epoch.specs.declared.MessageContent.the-variants.{Broadcast, Agreeme
 use Rattle.epoch.specs.Words.{isVacant}
 use Rattle.epoch.specs.Batch.{isReady, outputBatch}
 use Rattle.epoch.proofs.Ranges.{ContentOk, new-epoch-ok, batch-safe, propose-safe, content-safe}
-use Rattle.engine.specs.State.{nodes, ahead, currentEpoch, faultCount, lastEpoch, faultLimit, inputAt, faultsAt, epochAt, netOf, strategyOf, encryptedIn, epochWords, withEpoch, withoutEpoch, stateOk}
+use Rattle.engine.specs.State.{nodes, ahead, currentEpoch, faultCount, scratchOf, lastEpoch, faultLimit, inputAt, faultsAt, epochAt, netOf, strategyOf, encryptedIn, epochWords, withEpoch, withoutEpoch, stateOk}
 use Rattle.engine.specs.HoneyBadger.{updateEpoch, epochStateMut, inEpoch, tryOutputBatches, propose, handleMessage, clearBelow, skipToEpoch}
 use Rattle.engine.specs.Calls.{After, countFaults, isEnd, concludeAs, proposeCall, messageCall, contentOk, contentOf, skipReply, skipState}
 use Rattle.engine.specs.History.{propose as proposing, message as messaging, skip as skipping, stateAfter}
@@ -174,7 +174,7 @@ module _ (w : List ℕ) (ok : stateOk w ≡ true) where
   unfolding proposeCall
   propose-in-range scratch answers step =
       after-cond (not (stateOk w)) _ _ (λ _. ok)
-      (λ _. after-cond (ltb (length scratch) (length w)) _ _ (λ _. ok)
+      (λ _. after-cond (ltb (length scratch) (scratchOf w)) _ _ (λ _. ok)
       (λ _. after-cond (not (tableOk (nodes w) answers)) _ _ (λ _. ok)
       (λ t. after-cond (ltb lastEpoch (currentEpoch w)) _ _ (λ _. ok)
       (λ e. conclude-ok _ (propose w (tapeOf answers)) _ _ step
@@ -197,7 +197,7 @@ module _ (w : List ℕ) (ok : stateOk w ≡ true) where
     unfolding messageCall contentOk
     message-in-range =
         after-cond (not (stateOk w)) _ _ (λ _. ok)
-        (λ _. after-cond (ltb (length scratch) (length w)) _ _ (λ _. ok)
+        (λ _. after-cond (ltb (length scratch) (scratchOf w)) _ _ (λ _. ok)
         (λ _. after-cond (not (tableOk (nodes w) answers)) _ _ (λ _. ok)
         (λ t. after-cond (leb (nodes w) sender) _ _ (λ _. ok)
         (λ _. after-cond (not (contentOk w scratch answers step sender epoch content proposer item)) _ _ (λ _. ok)

@@ -11,13 +11,14 @@ use borrow.Author.Tests.{eqb-true, ltb-false, lt-leb, ne-eqb}
 use Rattle.steps.specs.Answers.{tapeOf}
 use Rattle.steps.specs.Runs.{Verdict, going, refused, failed, Run}
 use Rattle.steps.specs.Table.{tableOk}
-use Rattle.engine.specs.State.{nodes, currentEpoch, faultCount, lastEpoch, stateLength, stateOk}
+use Rattle.engine.specs.State.{nodes, currentEpoch, faultCount, scratchLength, scratchOf, lastEpoch, stateLength, stateOk}
 use Rattle.engine.specs.HoneyBadger.{hasInput, receivedProposals}
 use Rattle.engine.specs.Calls.{After, after, zeroed, isEnd, concludeAs, conclude, proposeCall, contentOk, messageCall, skipReply, skipState, queryReply, currentEpochResult, hasInputResult, receivedProposalsResult, faultCountResult}
 use Rattle.engine.specs.Create.{Numbers, numbersOk, createReply, createState}
 use Rattle.engine.specs.Laws.{isRefusal, oneOf, proposeFailures, proposeReplies, messageFailures, messageReplies, Promised}
 use Rattle.engine.proofs.Bools.{never}
 use Rattle.engine.proofs.Fails.{Meant, Only, only-propose, only-message}
+use Rattle.engine.proofs.RangesState.{shaped}
 
 -- numbers of a list
 more : (y : ℕ) (ys : List ℕ) (x : ℕ) → oneOf ys x ≡ true → oneOf (y ∷ ys) x ≡ true
@@ -55,7 +56,7 @@ module _ (calls failures : List ℕ) (state scratch step : List ℕ) where
   fine-cond false h k = k refl
 
   -- a refusal, or success, with the scratch zeroed
-  module _ (room : length state ≤ length scratch) where
+  module _ (room : scratchOf state ≤ length scratch) where
     fine-refusal : (n : ℕ) → oneOf (calls ++ failures) n ≡ true → oneOf (3 ∷ 4 ∷ []) n ≡ false → Fine (after n state (zeroed state scratch) step)
     fine-refusal n l o = record { listed = l; refusal = λ _. (refl, refl); zeros = rw o; room = λ _. room }
 
@@ -98,8 +99,8 @@ pub propose-promised : (state scratch answers step : List ℕ) → Promised prop
 unfolding proposeCall oneOf
 propose-promised state scratch answers step =
     fine (not (stateOk state)) (λ _. record { listed = refl; refusal = λ _. (refl, refl); zeros = refl; room = never })
-    (λ _. fine (ltb (length scratch) (length state)) (λ _. record { listed = refl; refusal = λ _. (refl, refl); zeros = refl; room = never })
-    (λ l. let room : length state ≤ length scratch = ltb-false _ _ l in
+    (λ _. fine (ltb (length scratch) (scratchOf state)) (λ _. record { listed = refl; refusal = λ _. (refl, refl); zeros = refl; room = never })
+    (λ l. let room : scratchOf state ≤ length scratch = ltb-false _ _ l in
     fine (not (tableOk (nodes state) answers)) (λ _. turned room 5 refl refl)
     (λ _. fine (ltb lastEpoch (currentEpoch state)) (λ _. turned room 6 refl refl)
     (λ _. fine-conclude proposeCalls proposeFailures state scratch step room refl refl refl refl far
@@ -108,7 +109,7 @@ propose-promised state scratch answers step =
     fine : (t : Bool) {x y : After} → (t ≡ true → Promised proposeReplies state scratch step x) → (t ≡ false → Promised proposeReplies state scratch step y) → Promised proposeReplies state scratch step (cond t x y)
     fine = fine-cond proposeCalls proposeFailures state scratch step
 
-    turned : length state ≤ length scratch → (n : ℕ) → oneOf proposeReplies n ≡ true → oneOf (3 ∷ 4 ∷ []) n ≡ false → Promised proposeReplies state scratch step (after n state (zeroed state scratch) step)
+    turned : scratchOf state ≤ length scratch → (n : ℕ) → oneOf proposeReplies n ≡ true → oneOf (3 ∷ 4 ∷ []) n ≡ false → Promised proposeReplies state scratch step (after n state (zeroed state scratch) step)
     turned = fine-refusal proposeCalls proposeFailures state scratch step
 
     far : AllHigh proposeFailures
@@ -123,8 +124,8 @@ pub message-promised : (state scratch answers step : List ℕ) (sender epoch con
 unfolding messageCall oneOf
 message-promised state scratch answers step sender epoch content proposer item =
     fine (not (stateOk state)) (λ _. record { listed = refl; refusal = λ _. (refl, refl); zeros = refl; room = never })
-    (λ _. fine (ltb (length scratch) (length state)) (λ _. record { listed = refl; refusal = λ _. (refl, refl); zeros = refl; room = never })
-    (λ l. let room : length state ≤ length scratch = ltb-false _ _ l in
+    (λ _. fine (ltb (length scratch) (scratchOf state)) (λ _. record { listed = refl; refusal = λ _. (refl, refl); zeros = refl; room = never })
+    (λ l. let room : scratchOf state ≤ length scratch = ltb-false _ _ l in
     fine (not (tableOk (nodes state) answers)) (λ _. turned room 5 refl refl)
     (λ _. fine (leb (nodes state) sender) (λ _. turned room 11 refl refl)
     (λ _. fine (not (contentOk state scratch answers step sender epoch content proposer item)) (λ _. turned room 7 refl refl)
@@ -135,27 +136,31 @@ message-promised state scratch answers step sender epoch content proposer item =
     fine : (t : Bool) {x y : After} → (t ≡ true → Promised messageReplies state scratch step x) → (t ≡ false → Promised messageReplies state scratch step y) → Promised messageReplies state scratch step (cond t x y)
     fine = fine-cond messageCalls messageFailures state scratch step
 
-    turned : length state ≤ length scratch → (n : ℕ) → oneOf messageReplies n ≡ true → oneOf (3 ∷ 4 ∷ []) n ≡ false → Promised messageReplies state scratch step (after n state (zeroed state scratch) step)
+    turned : scratchOf state ≤ length scratch → (n : ℕ) → oneOf messageReplies n ≡ true → oneOf (3 ∷ 4 ∷ []) n ≡ false → Promised messageReplies state scratch step (after n state (zeroed state scratch) step)
     turned = fine-refusal messageCalls messageFailures state scratch step
 
     far : AllHigh messageFailures
     far = (omega arith, (omega arith, (omega arith, (omega arith, tt))))
 
 -- SCRATCH: "the first state-length words of scratch are zero, the rest untouched"
+pub scratch-is : (state : List ℕ) → stateOk state ≡ true → scratchOf state ≡ length state
+unfolding scratchLength
+scratch-is state ok = sym (shaped state ok .long)
+
 module _ (state scratch : List ℕ) where
-  pub zeroed-length : length state ≤ length scratch → length (zeroed state scratch) ≡ length scratch
+  pub zeroed-length : scratchOf state ≤ length scratch → length (zeroed state scratch) ≡ length scratch
   unfolding zeroed
   zeroed-length h = simp (length-append, length-replicate, length-drop) (omega arith)
 
-  pub zeroed-first : (i : ℕ) → i < length state → getD (zeroed state scratch) i 0 ≡ 0
+  pub zeroed-first : (i : ℕ) → i < scratchOf state → getD (zeroed state scratch) i 0 ≡ 0
   unfolding zeroed
   zeroed-first i h =
-      List·getD-append (replicate (length state) 0) (drop (length state) scratch) 0 i (simp length-replicate h)
-      ∙ getD-replicate (length state) i 0 0 h
+      List·getD-append (replicate (scratchOf state) 0) (drop (scratchOf state) scratch) 0 i (simp length-replicate h)
+      ∙ getD-replicate (scratchOf state) i 0 0 h
 
-  pub zeroed-rest : drop (length state) (zeroed state scratch) ≡ drop (length state) scratch
+  pub zeroed-rest : drop (scratchOf state) (zeroed state scratch) ≡ drop (scratchOf state) scratch
   unfolding zeroed
-  zeroed-rest = drop-at (replicate (length state) 0) (drop (length state) scratch) (length state) (length-replicate (length state) 0)
+  zeroed-rest = drop-at (replicate (scratchOf state) 0) (drop (scratchOf state) scratch) (scratchOf state) (length-replicate (scratchOf state) 0)
 
 -- SKIP and CREATE: a refusal leaves the state, and the reply is one of those listed
 pub skip-refusal : (target : ℕ) (w : List ℕ) → isRefusal (skipReply target w) ≡ true → skipState target w ≡ w

@@ -14,7 +14,7 @@ use Rattle.steps.specs.Answers.{tapeOf}
 use Rattle.steps.specs.Steps.{fault, faults}
 use Rattle.steps.specs.Runs.{Verdict, going, refused, failed, Run, ends, before, inside}
 use Rattle.epoch.specs.declared.MessageContent.{MessageContent}
-use Rattle.engine.specs.State.{nodes, ahead, currentEpoch, faultCount, inputAt, lastEpoch, faultsAt, faultLimit, netOf, withEpoch, stateOk}
+use Rattle.engine.specs.State.{nodes, ahead, currentEpoch, faultCount, scratchOf, inputAt, lastEpoch, faultsAt, faultLimit, netOf, withEpoch, stateOk}
 use Rattle.engine.specs.Calls.{After, after, zeroed, countFaults, concludeAs, conclude, proposeCall, contentOk, contentOf, messageCall}
 use Rattle.engine.specs.Work.{Worked, proposeWork, messageWork, committed, settledAs, settled}
 use Rattle.engine.proofs.RangesState.{header-ok}
@@ -41,7 +41,7 @@ module _ (state scratch answers step : List ℕ) where
   -- an observer's propose asks nothing and changes nothing
   pub propose-settled : proposeCall state scratch answers step
       ≡ cond (not (stateOk state)) (after 3 state scratch step)
-      (cond (ltb (length scratch) (length state)) (after 4 state scratch step)
+      (cond (ltb (length scratch) (scratchOf state)) (after 4 state scratch step)
       (cond (not (tableOk (nodes state) answers)) (after 5 state (zeroed state scratch) step)
       (cond (ltb lastEpoch (currentEpoch state)) (after 6 state (zeroed state scratch) step)
       (cond (isValidator (netOf state))
@@ -50,7 +50,7 @@ module _ (state scratch answers step : List ℕ) where
   unfolding proposeCall
   propose-settled =
       past (not (stateOk state)) _ _ _ (λ a.
-      past (ltb (length scratch) (length state)) _ _ _ (λ _.
+      past (ltb (length scratch) (scratchOf state)) _ _ _ (λ _.
       past (not (tableOk (nodes state) answers)) _ _ _ (λ _.
       past (ltb lastEpoch (currentEpoch state)) _ _ _ (λ _.
       ap (λ r. conclude r (currentEpoch state) state (zeroed state scratch) step) (propose-apart state (not-false _ a) (tapeOf answers))
@@ -67,7 +67,7 @@ module _ (state scratch answers step : List ℕ) where
     -- beyond the look-ahead and late messages run no epoch
     pub message-settled : messageCall state scratch answers step sender epoch content proposer item
         ≡ cond (not (stateOk state)) (after 3 state scratch step)
-        (cond (ltb (length scratch) (length state)) (after 4 state scratch step)
+        (cond (ltb (length scratch) (scratchOf state)) (after 4 state scratch step)
         (cond (not (tableOk (nodes state) answers)) (after 5 state (zeroed state scratch) step)
         (cond (leb (nodes state) sender) (after 11 state (zeroed state scratch) step)
         (cond (not (contentOk state scratch answers step sender epoch content proposer item)) (after 7 state (zeroed state scratch) step)
@@ -80,7 +80,7 @@ module _ (state scratch answers step : List ℕ) where
     unfolding messageCall
     message-settled =
         past (not (stateOk state)) _ _ _ (λ a.
-        past (ltb (length scratch) (length state)) _ _ _ (λ _.
+        past (ltb (length scratch) (scratchOf state)) _ _ _ (λ _.
         past (not (tableOk (nodes state) answers)) _ _ _ (λ _.
         past (leb (nodes state) sender) _ _ _ (λ _.
         past (not (contentOk state scratch answers step sender epoch content proposer item)) _ _ _ (λ _.

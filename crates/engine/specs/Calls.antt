@@ -10,7 +10,7 @@ use Rattle.steps.specs.Steps.{Entry, faults, written, writtenFailed}
 use Rattle.steps.specs.Runs.{Verdict, going, refused, failed, Run}
 use Rattle.epoch.specs.declared.MessageContent.{MessageContent}
 use Rattle.epoch.specs.declared.MessageContent.the-variants.{Broadcast, Agreement, DecryptionShare}
-use Rattle.engine.specs.State.{nodes, currentEpoch, faultCount, lastEpoch, faultsAt, faultLimit, stateOk}
+use Rattle.engine.specs.State.{nodes, currentEpoch, faultCount, scratchOf, lastEpoch, faultsAt, faultLimit, stateOk}
 use Rattle.engine.specs.HoneyBadger.{propose, handleMessage, skipToEpoch, hasInput, receivedProposals}
 
 -- a call's reply, and the lent words afterwards
@@ -25,7 +25,7 @@ after reply state scratch step = record { reply = reply; state = state; scratch 
 
 -- "the first state-length words of scratch are zero, the rest untouched"
 unfoldable pub zeroed : List ℕ → List ℕ → List ℕ
-zeroed state scratch = replicate (length state) 0 ++ drop (length state) scratch
+zeroed state scratch = replicate (scratchOf state) 0 ++ drop (scratchOf state) scratch
 
 -- "the fault count, all faults in successful steps since creation, stopping at 2^32−1"
 unfoldable pub countFaults : List ℕ → List Entry → List ℕ
@@ -65,7 +65,7 @@ module _ (state scratch answers step : List ℕ) where
   unfoldable pub proposeCall : After
   proposeCall =
       cond (not (stateOk state)) (after 3 state scratch step)
-      (cond (ltb (length scratch) (length state)) (after 4 state scratch step)
+      (cond (ltb (length scratch) (scratchOf state)) (after 4 state scratch step)
       (cond (not (tableOk (nodes state) answers)) (after 5 state (zeroed state scratch) step)
       (cond (ltb lastEpoch (currentEpoch state)) (after 6 state (zeroed state scratch) step)
       (conclude (propose state (tapeOf answers)) (currentEpoch state) state (zeroed state scratch) step))))
@@ -82,7 +82,7 @@ module _ (state scratch answers step : List ℕ) where
     unfoldable pub messageCall : After
     messageCall =
         cond (not (stateOk state)) (after 3 state scratch step)
-        (cond (ltb (length scratch) (length state)) (after 4 state scratch step)
+        (cond (ltb (length scratch) (scratchOf state)) (after 4 state scratch step)
         (cond (not (tableOk (nodes state) answers)) (after 5 state (zeroed state scratch) step)
         (cond (leb (nodes state) sender) (after 11 state (zeroed state scratch) step)
         (cond (not contentOk) (after 7 state (zeroed state scratch) step)

@@ -12,7 +12,7 @@ unfoldable pub opened : Unit {0}
 unfolding EpochOpened.opened
     Schedule.scheduleOf Schedule.useOnEpoch Schedule.scheduleOk Schedule.usedFirst Schedule.usedSecond
     State.netOf State.strategyOf State.encryptedIn State.placeOf State.epochWords State.withEpoch State.withoutEpoch
-    State.epochsAt State.allHold State.headerTests State.epochsInRange State.stateOk
+    State.epochsAt State.scratchLength State.allHold State.headerTests State.epochsInRange State.stateOk
     HoneyBadger.updateEpoch HoneyBadger.epochStateMut HoneyBadger.inEpoch HoneyBadger.tryOutputBatches HoneyBadger.propose
     HoneyBadger.handleMessage HoneyBadger.clearBelow HoneyBadger.skipToEpoch HoneyBadger.hasInput
     HoneyBadger.receivedProposals
