@@ -14,7 +14,7 @@ use Rattle.steps.specs.Runs.{Verdict, going, refused, failed, Run}
 use Rattle.steps.proofs.Laws.{and-true}
 use Rattle.engine.specs.State.{nodes, currentEpoch, scratchOf, lastEpoch, stateOk}
 use Rattle.engine.specs.HoneyBadger.{propose, handleMessage}
-use Rattle.engine.specs.Calls.{After, zeroed, countFaults, isEnd, concludeAs, conclude, proposeCall, contentOk, contentOf, messageCall, skipReply}
+use Rattle.engine.specs.Calls.{After, zeroed, countFaults, isEnd, concludeAs, conclude, proposeAfter, proposeCall, contentOk, itemOk, contentOf, messageCall, skipReply}
 use Rattle.engine.specs.Laws.{isRefusal, oneOf, proposeFailures, proposeReplies, messageFailures, messageReplies}
 use Rattle.engine.specs.History.{Call, turnOf, stateAfter}
 use Rattle.engine.specs.History.{propose as proposing, message as messaging, skip as skipping}
@@ -59,28 +59,33 @@ conclude-passes failures not-0 run epoch state scratch step m = go (run .verdict
         (λ _ z. absurd (omega arith))
 
 module _ (w scratch answers step : List ℕ) where
-  pub propose-passes : proposeCall w scratch answers step .reply ≡ 0
-      → (stateOk w ≡ true) × (tableOk (nodes w) answers ≡ true) × Passed (propose w (tapeOf answers)) (currentEpoch w) step (proposeCall w scratch answers step)
-  unfolding proposeCall oneOf
-  propose-passes =
+  pub propose-after-passes : (g : ℕ) → proposeAfter w scratch answers step g .reply ≡ 0
+      → (stateOk w ≡ true) × (tableOk (nodes w) answers ≡ true) × Passed (propose w (tapeOf answers)) (currentEpoch w) step (proposeAfter w scratch answers step g)
+  unfolding proposeAfter oneOf
+  propose-after-passes g =
       through (not (stateOk w)) _ _ P (λ _ z. absurd (omega arith))
       (λ ok. through (ltb (length scratch) (scratchOf w)) _ _ P (λ _ z. absurd (omega arith))
       (λ _. through (not (tableOk (nodes w) answers)) _ _ P (λ _ z. absurd (omega arith))
       (λ table. through (ltb lastEpoch (currentEpoch w)) _ _ P (λ _ z. absurd (omega arith))
+      (λ _. through (not (eqb g 0)) _ _ P (λ t z. absurd (false≢true (rw z at t)))
       (λ _ z. (
         not-false _ ok,
         not-false _ table,
         conclude-passes proposeFailures refl (propose w (tapeOf answers)) (currentEpoch w) w (zeroed w scratch) step
             (only-propose (oneOf proposeFailures) refl refl refl refl refl w (tapeOf answers) .fails) z,
-      )))))
+      ))))))
     where
       P : After → Type 0
       P r = (stateOk w ≡ true) × (tableOk (nodes w) answers ≡ true) × Passed (propose w (tapeOf answers)) (currentEpoch w) step r
 
+  pub propose-passes : proposeCall w scratch answers step .reply ≡ 0
+      → (stateOk w ≡ true) × (tableOk (nodes w) answers ≡ true) × Passed (propose w (tapeOf answers)) (currentEpoch w) step (proposeCall w scratch answers step)
+  propose-passes = propose-after-passes 0
+
   module _ (sender epoch content proposer item : ℕ) where
     pub message-passes : messageCall w scratch answers step sender epoch content proposer item .reply ≡ 0
-        → (stateOk w ≡ true) × (tableOk (nodes w) answers ≡ true) × (sender < nodes w) × (contentOk w scratch answers step sender epoch content proposer item ≡ true)
-        × Passed (handleMessage sender epoch proposer (contentOf w scratch answers step sender epoch content proposer item) w (tapeOf answers)) epoch step
+        → (stateOk w ≡ true) × (tableOk (nodes w) answers ≡ true) × (sender < nodes w) × (contentOk (nodes w) content proposer ≡ true)
+        × Passed (handleMessage sender epoch proposer (contentOf content item) w (tapeOf answers)) epoch step
         (messageCall w scratch answers step sender epoch content proposer item)
     unfolding messageCall oneOf
     message-passes =
@@ -88,20 +93,21 @@ module _ (w scratch answers step : List ℕ) where
         (λ ok. through (ltb (length scratch) (scratchOf w)) _ _ P (λ _ z. absurd (omega arith))
         (λ _. through (not (tableOk (nodes w) answers)) _ _ P (λ _ z. absurd (omega arith))
         (λ table. through (leb (nodes w) sender) _ _ P (λ _ z. absurd (omega arith))
-        (λ sent. through (not (contentOk w scratch answers step sender epoch content proposer item)) _ _ P (λ _ z. absurd (omega arith))
-        (λ fine. through (ltb lastEpoch (currentEpoch w)) _ _ P (λ _ z. absurd (omega arith))
+        (λ sent. through (not (contentOk (nodes w) content proposer)) _ _ P (λ _ z. absurd (omega arith))
+        (λ fine. through (not (itemOk content item)) _ _ P (λ _ z. absurd (omega arith))
+        (λ _. through (ltb lastEpoch (currentEpoch w)) _ _ P (λ _ z. absurd (omega arith))
         (λ _ z. (
           not-false _ ok,
           not-false _ table,
           leb-false (nodes w) sender sent,
           not-false _ fine,
-          conclude-passes messageFailures refl (handleMessage sender epoch proposer (contentOf w scratch answers step sender epoch content proposer item) w (tapeOf answers)) epoch w (zeroed w scratch) step
-              (only-message (oneOf messageFailures) refl refl refl refl sender epoch proposer (contentOf w scratch answers step sender epoch content proposer item) w (tapeOf answers) .fails) z,
-        )))))))
+          conclude-passes messageFailures refl (handleMessage sender epoch proposer (contentOf content item) w (tapeOf answers)) epoch w (zeroed w scratch) step
+              (only-message (oneOf messageFailures) refl refl refl refl sender epoch proposer (contentOf content item) w (tapeOf answers) .fails) z,
+        ))))))))
       where
         P : After → Type 0
-        P r = (stateOk w ≡ true) × (tableOk (nodes w) answers ≡ true) × (sender < nodes w) × (contentOk w scratch answers step sender epoch content proposer item ≡ true)
-            × Passed (handleMessage sender epoch proposer (contentOf w scratch answers step sender epoch content proposer item) w (tapeOf answers)) epoch step r
+        P r = (stateOk w ≡ true) × (tableOk (nodes w) answers ≡ true) × (sender < nodes w) × (contentOk (nodes w) content proposer ≡ true)
+            × Passed (handleMessage sender epoch proposer (contentOf content item) w (tapeOf answers)) epoch step r
 
 -- OTHER REPLIES BELOW 20. All of a list's numbers below 20 are at most 12
 unfoldable pub allLow : List ℕ → Bool

@@ -13,7 +13,7 @@ use Rattle.steps.specs.Runs.{Verdict, going, refused, failed, Run}
 use Rattle.steps.specs.Table.{tableOk}
 use Rattle.engine.specs.State.{nodes, currentEpoch, faultCount, scratchLength, scratchOf, lastEpoch, stateLength, stateOk}
 use Rattle.engine.specs.HoneyBadger.{hasInput, receivedProposals}
-use Rattle.engine.specs.Calls.{After, after, zeroed, isEnd, concludeAs, conclude, proposeCall, contentOk, messageCall, skipReply, skipState, queryReply, currentEpochResult, hasInputResult, receivedProposalsResult, faultCountResult}
+use Rattle.engine.specs.Calls.{After, after, zeroed, isEnd, concludeAs, conclude, proposeAfter, proposeCall, contentOk, itemOk, messageCall, skipReply, skipState, queryReply, currentEpochResult, hasInputResult, receivedProposalsResult, faultCountResult}
 use Rattle.engine.specs.Create.{Numbers, numbersOk, createReply, createState}
 use Rattle.engine.specs.Laws.{isRefusal, oneOf, proposeFailures, proposeReplies, messageFailures, messageReplies, Promised}
 use Rattle.engine.proofs.Bools.{never}
@@ -47,9 +47,9 @@ high (y ∷ ys) x a h = go (eqb x y) refl h (high ys x (a .1))
     go false e k ih = ih k
 
 -- a call, by its branches
-module _ (calls failures : List ℕ) (state scratch step : List ℕ) where
+module _ (replies state scratch step : List ℕ) where
   abbrev Fine : After → Type 0
-  Fine r = Promised (calls ++ failures) state scratch step r
+  Fine r = Promised replies state scratch step r
 
   fine-cond : (t : Bool) {x y : After} → (t ≡ true → Fine x) → (t ≡ false → Fine y) → Fine (cond t x y)
   fine-cond true h k = h refl
@@ -57,10 +57,10 @@ module _ (calls failures : List ℕ) (state scratch step : List ℕ) where
 
   -- a refusal, or success, with the scratch zeroed
   module _ (room : scratchOf state ≤ length scratch) where
-    fine-refusal : (n : ℕ) → oneOf (calls ++ failures) n ≡ true → oneOf (3 ∷ 4 ∷ []) n ≡ false → Fine (after n state (zeroed state scratch) step)
+    fine-refusal : (n : ℕ) → oneOf replies n ≡ true → oneOf (3 ∷ 4 ∷ []) n ≡ false → Fine (after n state (zeroed state scratch) step)
     fine-refusal n l o = record { listed = l; refusal = λ _. (refl, refl); zeros = rw o; room = λ _. room }
 
-    fine-end : (n : ℕ) (state′ step′ : List ℕ) → oneOf (calls ++ failures) n ≡ true → oneOf (3 ∷ 4 ∷ []) n ≡ false → isRefusal n ≡ false
+    fine-end : (n : ℕ) (state′ step′ : List ℕ) → oneOf replies n ≡ true → oneOf (3 ∷ 4 ∷ []) n ≡ false → isRefusal n ≡ false
         → Fine (after n state′ (zeroed state scratch) step′)
     fine-end n state′ step′ l o i =
         record { listed = l; refusal = λ h. never (sym h ∙ i); zeros = rw o; room = λ _. room }
@@ -72,8 +72,8 @@ module _ (calls failures : List ℕ) (state scratch step : List ℕ) where
     refusal-not : (n : ℕ) → 20 ≤ n → isRefusal n ≡ false
     refusal-not n h = rw (lt-leb n 12 (omega arith)) (and-false (leb 1 n))
 
-    module _ (l-0 : oneOf (calls ++ failures) 0 ≡ true) (l-8 : oneOf (calls ++ failures) 8 ≡ true) (l-9 : oneOf (calls ++ failures) 9 ≡ true)
-        (l-10 : oneOf (calls ++ failures) 10 ≡ true) (far : AllHigh failures) where
+    module _ (l-0 : oneOf replies 0 ≡ true) (l-8 : oneOf replies 8 ≡ true) (l-9 : oneOf replies 9 ≡ true)
+        (l-10 : oneOf replies 10 ≡ true) (failures : List ℕ) (among : (x : ℕ) → oneOf failures x ≡ true → oneOf replies x ≡ true) (far : AllHigh failures) where
       fine-conclude : (r : Run (List ℕ) (Unit {0})) (epoch : ℕ) → Only (oneOf failures) r → Fine (conclude r epoch state (zeroed state scratch) step)
       unfolding concludeAs oneOf
       fine-conclude r epoch h = go (r .verdict) (h .fails)
@@ -87,33 +87,45 @@ module _ (calls failures : List ℕ) (state scratch step : List ℕ) where
           go (failed error) m =
               fine-cond (isEnd (r .tape .rest))
               (λ _. fine-cond (leb 1 (length step / 4))
-              (λ _. fine-end error _ _ (more-by calls failures error m) (low-not error (high failures error far m)) (refusal-not error (high failures error far m)))
+              (λ _. fine-end error _ _ (among error m) (low-not error (high failures error far m)) (refusal-not error (high failures error far m)))
               (λ _. fine-refusal 10 l-10 refl))
               (λ _. fine-refusal 9 l-9 refl)
 
--- PROPOSE
+-- PROPOSE. With a further check, whose replies are `others`
 abbrev proposeCalls : List ℕ
 proposeCalls = 0 ∷ 3 ∷ 4 ∷ 5 ∷ 6 ∷ 8 ∷ 9 ∷ 10 ∷ []
 
-pub propose-promised : (state scratch answers step : List ℕ) → Promised proposeReplies state scratch step (proposeCall state scratch answers step)
-unfolding proposeCall oneOf
-propose-promised state scratch answers step =
-    fine (not (stateOk state)) (λ _. record { listed = refl; refusal = λ _. (refl, refl); zeros = refl; room = never })
-    (λ _. fine (ltb (length scratch) (scratchOf state)) (λ _. record { listed = refl; refusal = λ _. (refl, refl); zeros = refl; room = never })
+pub propose-after-promised : (others state scratch answers step : List ℕ) (g : ℕ) → oneOf (others ++ proposeReplies) g ≡ true → oneOf (3 ∷ 4 ∷ []) g ≡ false
+    → Promised (others ++ proposeReplies) state scratch step (proposeAfter state scratch answers step g)
+unfolding proposeAfter oneOf
+propose-after-promised others state scratch answers step g more-g not-g =
+    fine (not (stateOk state)) (λ _. record { listed = old 3 refl; refusal = λ _. (refl, refl); zeros = refl; room = never })
+    (λ _. fine (ltb (length scratch) (scratchOf state)) (λ _. record { listed = old 4 refl; refusal = λ _. (refl, refl); zeros = refl; room = never })
     (λ l. let room : scratchOf state ≤ length scratch = ltb-false _ _ l in
-    fine (not (tableOk (nodes state) answers)) (λ _. turned room 5 refl refl)
-    (λ _. fine (ltb lastEpoch (currentEpoch state)) (λ _. turned room 6 refl refl)
-    (λ _. fine-conclude proposeCalls proposeFailures state scratch step room refl refl refl refl far
-    _ (currentEpoch state) (only-propose (oneOf proposeFailures) refl refl refl refl refl state (tapeOf answers))))))
+    fine (not (tableOk (nodes state) answers)) (λ _. turned room 5 (old 5 refl) refl)
+    (λ _. fine (ltb lastEpoch (currentEpoch state)) (λ _. turned room 6 (old 6 refl) refl)
+    (λ _. fine (not (eqb g 0)) (λ _. turned room g more-g not-g)
+    (λ _. fine-conclude (others ++ proposeReplies) state scratch step room (old 0 refl) (old 8 refl) (old 9 refl) (old 10 refl)
+    proposeFailures (λ x m. old x (more-by proposeCalls proposeFailures x m)) far
+    _ (currentEpoch state) (only-propose (oneOf proposeFailures) refl refl refl refl refl state (tapeOf answers)))))))
   where
-    fine : (t : Bool) {x y : After} → (t ≡ true → Promised proposeReplies state scratch step x) → (t ≡ false → Promised proposeReplies state scratch step y) → Promised proposeReplies state scratch step (cond t x y)
-    fine = fine-cond proposeCalls proposeFailures state scratch step
+    old : (x : ℕ) → oneOf proposeReplies x ≡ true → oneOf (others ++ proposeReplies) x ≡ true
+    old x h = more-by others proposeReplies x h
 
-    turned : scratchOf state ≤ length scratch → (n : ℕ) → oneOf proposeReplies n ≡ true → oneOf (3 ∷ 4 ∷ []) n ≡ false → Promised proposeReplies state scratch step (after n state (zeroed state scratch) step)
-    turned = fine-refusal proposeCalls proposeFailures state scratch step
+    fine : (t : Bool) {x y : After} → (t ≡ true → Promised (others ++ proposeReplies) state scratch step x) → (t ≡ false → Promised (others ++ proposeReplies) state scratch step y)
+        → Promised (others ++ proposeReplies) state scratch step (cond t x y)
+    fine = fine-cond (others ++ proposeReplies) state scratch step
+
+    turned : scratchOf state ≤ length scratch → (n : ℕ) → oneOf (others ++ proposeReplies) n ≡ true → oneOf (3 ∷ 4 ∷ []) n ≡ false
+        → Promised (others ++ proposeReplies) state scratch step (after n state (zeroed state scratch) step)
+    turned = fine-refusal (others ++ proposeReplies) state scratch step
 
     far : AllHigh proposeFailures
     far = (omega arith, (omega arith, (omega arith, (omega arith, (omega arith, tt)))))
+
+pub propose-promised : (state scratch answers step : List ℕ) → Promised proposeReplies state scratch step (proposeCall state scratch answers step)
+unfolding oneOf
+propose-promised state scratch answers step = propose-after-promised [] state scratch answers step 0 refl refl
 
 -- MESSAGE
 abbrev messageCalls : List ℕ
@@ -128,16 +140,18 @@ message-promised state scratch answers step sender epoch content proposer item =
     (λ l. let room : scratchOf state ≤ length scratch = ltb-false _ _ l in
     fine (not (tableOk (nodes state) answers)) (λ _. turned room 5 refl refl)
     (λ _. fine (leb (nodes state) sender) (λ _. turned room 11 refl refl)
-    (λ _. fine (not (contentOk state scratch answers step sender epoch content proposer item)) (λ _. turned room 7 refl refl)
+    (λ _. fine (not (contentOk (nodes state) content proposer)) (λ _. turned room 7 refl refl)
+    (λ _. fine (not (itemOk content item)) (λ _. turned room 7 refl refl)
     (λ _. fine (ltb lastEpoch (currentEpoch state)) (λ _. turned room 6 refl refl)
-    (λ _. fine-conclude messageCalls messageFailures state scratch step room refl refl refl refl far
-    _ epoch (only-message (oneOf messageFailures) refl refl refl refl sender epoch proposer _ state (tapeOf answers))))))))
+    (λ _. fine-conclude messageReplies state scratch step room refl refl refl refl
+    messageFailures (more-by messageCalls messageFailures) far
+    _ epoch (only-message (oneOf messageFailures) refl refl refl refl sender epoch proposer _ state (tapeOf answers)))))))))
   where
     fine : (t : Bool) {x y : After} → (t ≡ true → Promised messageReplies state scratch step x) → (t ≡ false → Promised messageReplies state scratch step y) → Promised messageReplies state scratch step (cond t x y)
-    fine = fine-cond messageCalls messageFailures state scratch step
+    fine = fine-cond messageReplies state scratch step
 
     turned : scratchOf state ≤ length scratch → (n : ℕ) → oneOf messageReplies n ≡ true → oneOf (3 ∷ 4 ∷ []) n ≡ false → Promised messageReplies state scratch step (after n state (zeroed state scratch) step)
-    turned = fine-refusal messageCalls messageFailures state scratch step
+    turned = fine-refusal messageReplies state scratch step
 
     far : AllHigh messageFailures
     far = (omega arith, (omega arith, (omega arith, (omega arith, tt))))

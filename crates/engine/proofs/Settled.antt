@@ -6,7 +6,7 @@ use mathlib.Core.Bool.{Bool, true, false, cond, not}
 use native.Mathlib.Omega.{arith}
 use lib.ListN.{length, getD, set}
 use lib.Seq.{set-getD}
-use lib.Dec.{leb, ltb}
+use lib.Dec.{eqb, leb, ltb}
 use borrow.Author.Tests.{le-leb, ltb-false, not-false}
 use Rattle.steps.specs.Network.{isValidator}
 use Rattle.steps.specs.Table.{tableOk}
@@ -15,7 +15,7 @@ use Rattle.steps.specs.Steps.{fault, faults}
 use Rattle.steps.specs.Runs.{Verdict, going, refused, failed, Run, ends, before, inside}
 use Rattle.epoch.specs.declared.MessageContent.{MessageContent}
 use Rattle.engine.specs.State.{nodes, ahead, currentEpoch, faultCount, scratchOf, inputAt, lastEpoch, faultsAt, faultLimit, netOf, withEpoch, stateOk}
-use Rattle.engine.specs.Calls.{After, after, zeroed, countFaults, concludeAs, conclude, proposeCall, contentOk, contentOf, messageCall}
+use Rattle.engine.specs.Calls.{After, after, zeroed, countFaults, concludeAs, conclude, proposeAfter, proposeCall, contentOk, itemOk, contentOf, messageCall}
 use Rattle.engine.specs.Work.{Worked, proposeWork, messageWork, committed, settledAs, settled}
 use Rattle.engine.proofs.RangesState.{header-ok}
 use Rattle.engine.proofs.Works.{propose-apart, propose-failed, message-apart, message-failed}
@@ -38,23 +38,25 @@ past true x y z h = refl
 past false x y z h = h refl
 
 module _ (state scratch answers step : List ℕ) where
-  -- an observer's propose asks nothing and changes nothing
-  pub propose-settled : proposeCall state scratch answers step
+  -- an observer's propose asks nothing and changes nothing. g is the reply of a further check, 0 for propose
+  pub propose-settled : (g : ℕ) → proposeAfter state scratch answers step g
       ≡ cond (not (stateOk state)) (after 3 state scratch step)
       (cond (ltb (length scratch) (scratchOf state)) (after 4 state scratch step)
       (cond (not (tableOk (nodes state) answers)) (after 5 state (zeroed state scratch) step)
       (cond (ltb lastEpoch (currentEpoch state)) (after 6 state (zeroed state scratch) step)
+      (cond (not (eqb g 0)) (after g state (zeroed state scratch) step)
       (cond (isValidator (netOf state))
       (settled (proposeWork state (tapeOf answers)) (currentEpoch state) (set state inputAt 1) state (zeroed state scratch) step)
-      (conclude (ends (going tt) state (tapeOf answers)) (currentEpoch state) state (zeroed state scratch) step)))))
-  unfolding proposeCall
-  propose-settled =
+      (conclude (ends (going tt) state (tapeOf answers)) (currentEpoch state) state (zeroed state scratch) step))))))
+  unfolding proposeAfter
+  propose-settled g =
       past (not (stateOk state)) _ _ _ (λ a.
       past (ltb (length scratch) (scratchOf state)) _ _ _ (λ _.
       past (not (tableOk (nodes state) answers)) _ _ _ (λ _.
       past (ltb lastEpoch (currentEpoch state)) _ _ _ (λ _.
+      past (not (eqb g 0)) _ _ _ (λ _.
       ap (λ r. conclude r (currentEpoch state) state (zeroed state scratch) step) (propose-apart state (not-false _ a) (tapeOf answers))
-      ∙ go (not-false _ a) (isValidator (netOf state))))))
+      ∙ go (not-false _ a) (isValidator (netOf state)))))))
     where
       go : stateOk state ≡ true → (t : Bool)
           → conclude (cond t (inside (committed (set state inputAt 1) (currentEpoch state)) (proposeWork state (tapeOf answers))) (ends (going tt) state (tapeOf answers))) (currentEpoch state) state (zeroed state scratch) step
@@ -70,26 +72,28 @@ module _ (state scratch answers step : List ℕ) where
         (cond (ltb (length scratch) (scratchOf state)) (after 4 state scratch step)
         (cond (not (tableOk (nodes state) answers)) (after 5 state (zeroed state scratch) step)
         (cond (leb (nodes state) sender) (after 11 state (zeroed state scratch) step)
-        (cond (not (contentOk state scratch answers step sender epoch content proposer item)) (after 7 state (zeroed state scratch) step)
+        (cond (not (contentOk (nodes state) content proposer)) (after 7 state (zeroed state scratch) step)
+        (cond (not (itemOk content item)) (after 7 state (zeroed state scratch) step)
         (cond (ltb lastEpoch (currentEpoch state)) (after 6 state (zeroed state scratch) step)
         (cond (ltb (currentEpoch state + ahead state) epoch)
         (conclude (before (fault 1 sender 0 ∷ []) (ends (going tt) state (tapeOf answers))) epoch state (zeroed state scratch) step)
         (cond (ltb epoch (currentEpoch state))
         (conclude (ends (going tt) state (tapeOf answers)) epoch state (zeroed state scratch) step)
-        (settled (messageWork sender epoch proposer (contentOf state scratch answers step sender epoch content proposer item) state (tapeOf answers)) epoch state state (zeroed state scratch) step))))))))
+        (settled (messageWork sender epoch proposer (contentOf content item) state (tapeOf answers)) epoch state state (zeroed state scratch) step)))))))))
     unfolding messageCall
     message-settled =
         past (not (stateOk state)) _ _ _ (λ a.
         past (ltb (length scratch) (scratchOf state)) _ _ _ (λ _.
         past (not (tableOk (nodes state) answers)) _ _ _ (λ _.
         past (leb (nodes state) sender) _ _ _ (λ _.
-        past (not (contentOk state scratch answers step sender epoch content proposer item)) _ _ _ (λ _.
+        past (not (contentOk (nodes state) content proposer)) _ _ _ (λ _.
+        past (not (itemOk content item)) _ _ _ (λ _.
         past (ltb lastEpoch (currentEpoch state)) _ _ _ (λ _.
-        ap (λ r. conclude r epoch state (zeroed state scratch) step) (message-apart state (not-false _ a) (tapeOf answers) sender epoch proposer (contentOf state scratch answers step sender epoch content proposer item))
-        ∙ go (not-false _ a) (ltb (currentEpoch state + ahead state) epoch) refl (ltb epoch (currentEpoch state)) refl))))))
+        ap (λ r. conclude r epoch state (zeroed state scratch) step) (message-apart state (not-false _ a) (tapeOf answers) sender epoch proposer (contentOf content item))
+        ∙ go (not-false _ a) (ltb (currentEpoch state + ahead state) epoch) refl (ltb epoch (currentEpoch state)) refl)))))))
       where
         what : MessageContent
-        what = contentOf state scratch answers step sender epoch content proposer item
+        what = contentOf content item
 
         r : Run Worked (Unit {0})
         r = messageWork sender epoch proposer what state (tapeOf answers)

@@ -60,24 +60,33 @@ concludeAs (failed error) r epoch state scratch step =
 abbrev pub conclude : Run (List ℕ) (Unit {0}) → ℕ → List ℕ → List ℕ → List ℕ → After
 conclude r epoch state scratch step = concludeAs (r .verdict) r epoch state scratch step
 
+-- "7: content not 1 broadcast, 2 agreement, 3 share; proposer ≥ N;"
+unfoldable pub contentOk : ℕ → ℕ → ℕ → Bool
+contentOk n content proposer = within 1 3 content && ltb proposer n
+
+-- "item not 0 for contents 1 and 2, or not a handle for 3"
+unfoldable pub itemOk : ℕ → ℕ → Bool
+itemOk content item = cond (eqb content 3) (handle item) (eqb item 0)
+
+unfoldable pub contentOf : ℕ → ℕ → MessageContent
+contentOf content item = cond (eqb content 1) Broadcast (cond (eqb content 2) Agreement (DecryptionShare item))
+
 module _ (state scratch answers step : List ℕ) where
-  -- propose: checks 3, 4, 5, 6, then the run
-  unfoldable pub proposeCall : After
-  proposeCall =
+  -- propose with one more check: 3, 4, 5, 6, then the reply g where it is not 0, then the run
+  unfoldable pub proposeAfter : ℕ → After
+  proposeAfter g =
       cond (not (stateOk state)) (after 3 state scratch step)
       (cond (ltb (length scratch) (scratchOf state)) (after 4 state scratch step)
       (cond (not (tableOk (nodes state) answers)) (after 5 state (zeroed state scratch) step)
       (cond (ltb lastEpoch (currentEpoch state)) (after 6 state (zeroed state scratch) step)
-      (conclude (propose state (tapeOf answers)) (currentEpoch state) state (zeroed state scratch) step))))
+      (cond (not (eqb g 0)) (after g state (zeroed state scratch) step)
+      (conclude (propose state (tapeOf answers)) (currentEpoch state) state (zeroed state scratch) step)))))
+
+  -- propose: checks 3, 4, 5, 6, then the run
+  abbrev pub proposeCall : After
+  proposeCall = proposeAfter 0
 
   module _ (sender epoch content proposer item : ℕ) where
-    -- "7: content not 1 broadcast, 2 agreement, 3 share; proposer ≥ N; item not 0 for contents 1 and 2, or not a handle for 3"
-    unfoldable pub contentOk : Bool
-    contentOk = within 1 3 content && ltb proposer (nodes state) && cond (eqb content 3) (handle item) (eqb item 0)
-
-    unfoldable pub contentOf : MessageContent
-    contentOf = cond (eqb content 1) Broadcast (cond (eqb content 2) Agreement (DecryptionShare item))
-
     -- message: checks 3, 4, 5, 11, 7, 6, then the run
     unfoldable pub messageCall : After
     messageCall =
@@ -85,9 +94,10 @@ module _ (state scratch answers step : List ℕ) where
         (cond (ltb (length scratch) (scratchOf state)) (after 4 state scratch step)
         (cond (not (tableOk (nodes state) answers)) (after 5 state (zeroed state scratch) step)
         (cond (leb (nodes state) sender) (after 11 state (zeroed state scratch) step)
-        (cond (not contentOk) (after 7 state (zeroed state scratch) step)
+        (cond (not (contentOk (nodes state) content proposer)) (after 7 state (zeroed state scratch) step)
+        (cond (not (itemOk content item)) (after 7 state (zeroed state scratch) step)
         (cond (ltb lastEpoch (currentEpoch state)) (after 6 state (zeroed state scratch) step)
-        (conclude (handleMessage sender epoch proposer contentOf state (tapeOf answers)) epoch state (zeroed state scratch) step))))))
+        (conclude (handleMessage sender epoch proposer (contentOf content item) state (tapeOf answers)) epoch state (zeroed state scratch) step)))))))
 
 -- skip: its reply, and the state afterwards. "12: target above 2^62. No step."
 unfoldable pub skipReply : ℕ → List ℕ → ℕ

@@ -16,7 +16,7 @@ unfolding EpochOpened.opened
     HoneyBadger.updateEpoch HoneyBadger.epochStateMut HoneyBadger.inEpoch HoneyBadger.tryOutputBatches HoneyBadger.propose
     HoneyBadger.handleMessage HoneyBadger.clearBelow HoneyBadger.skipToEpoch HoneyBadger.hasInput
     HoneyBadger.receivedProposals
-    Calls.zeroed Calls.countFaults Calls.isEnd Calls.concludeAs Calls.proposeCall Calls.contentOk Calls.contentOf
+    Calls.zeroed Calls.countFaults Calls.isEnd Calls.concludeAs Calls.proposeAfter Calls.contentOk Calls.itemOk Calls.contentOf
     Calls.messageCall Calls.skipReply Calls.skipState Calls.queryReply Calls.currentEpochResult Calls.hasInputResult
     Calls.receivedProposalsResult Calls.faultCountResult
     Work.built Work.epochCall Work.batchesFrom Work.beside Work.workIn Work.proposeWork Work.messageWork Work.committed Work.settledAs
