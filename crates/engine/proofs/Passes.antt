@@ -10,7 +10,7 @@ use borrow.Author.Tests.{eqb-true, not-false, leb-true, leb-false, le-leb, lt-lt
 use Rattle.steps.specs.Answers.{Rec, tapeOf}
 use Rattle.steps.specs.Steps.{written}
 use Rattle.steps.specs.Table.{tableOk}
-use Rattle.steps.specs.Runs.{Verdict, going, refused, failed, Run}
+use Rattle.steps.specs.Runs.{Verdict, going, refused, failed, numberOf, Run}
 use Rattle.steps.proofs.Laws.{and-true}
 use Rattle.engine.specs.State.{nodes, currentEpoch, scratchOf, lastEpoch, stateOk}
 use Rattle.engine.specs.HoneyBadger.{propose, handleMessage}
@@ -40,7 +40,7 @@ at-end (r ∷ rs) e = absurd (false≢true e)
 
 conclude-passes : (failures : List ℕ) → oneOf failures 0 ≡ false → (run : Run (List ℕ) (Unit {0})) (epoch : ℕ) (state scratch step : List ℕ) → Meant (oneOf failures) (run .verdict)
     → conclude run epoch state scratch step .reply ≡ 0 → Passed run epoch step (conclude run epoch state scratch step)
-unfolding concludeAs
+unfolding concludeAs numberOf
 conclude-passes failures not-0 run epoch state scratch step m = go (run .verdict) refl m
   where
     P : After → Type 0
@@ -50,13 +50,13 @@ conclude-passes failures not-0 run epoch state scratch step m = go (run .verdict
         → Passed run epoch step (concludeAs v run epoch state scratch step)
     go refused e m = λ z. absurd (omega arith)
     go (going x) e m =
-        through (isEnd (run .tape .rest)) _ _ P
-        (λ i. through (leb (1 + length (run .log)) (length step / 4)) _ _ P (λ _ z. record { goes = e; rest = at-end (run .tape .rest) i; state = refl; written = refl }) (λ _ z. absurd (omega arith)))
-        (λ _ z. absurd (omega arith))
+        through (not (isEnd (run .tape .rest))) _ _ P (λ _ z. absurd (omega arith))
+        (λ i. through (ltb (length step / 4) (1 + length (run .log))) _ _ P (λ _ z. absurd (omega arith))
+        (λ _ z. record { goes = e; rest = at-end (run .tape .rest) (not-false _ i); state = refl; written = refl }))
     go (failed error) e m =
-        through (isEnd (run .tape .rest)) _ _ P
-        (λ i. through (leb 1 (length step / 4)) _ _ P (λ _ z. absurd (false≢true (sym not-0 ∙ (ap (oneOf failures) (sym z) ∙ m)))) (λ _ z. absurd (omega arith)))
-        (λ _ z. absurd (omega arith))
+        through (not (isEnd (run .tape .rest))) _ _ P (λ _ z. absurd (omega arith))
+        (λ i. through (ltb (length step / 4) 1) _ _ P (λ _ z. absurd (omega arith))
+        (λ _ z. absurd (false≢true (sym not-0 ∙ (ap (oneOf failures) (sym z) ∙ m)))))
 
 module _ (w scratch answers step : List ℕ) where
   pub propose-after-passes : (g : ℕ) → proposeAfter w scratch answers step g .reply ≡ 0

@@ -156,13 +156,12 @@ module _ (w : List ℕ) (ok : stateOk w ≡ true) where
       by : (v : Verdict (Unit {0})) → stateOk (concludeAs v r epoch w scratch step .state) ≡ true
       by refused = ok
       by (going x) =
-          after-cond (isEnd (r .tape .rest)) _ _
-          (λ _. after-cond (leb (1 + length (r .log)) (length step / 4)) _ _ (λ _. leave w ok _ (count-ok w (header-ok w ok .some) (header-ok w ok .few) _ (r .state) (r .log) ended)) (λ _. ok))
-          (λ _. ok)
+          after-cond (not (isEnd (r .tape .rest))) _ _ (λ _. ok)
+          (λ _. after-cond (ltb (length step / 4) (1 + length (r .log))) _ _ (λ _. ok)
+          (λ _. leave w ok _ (count-ok w (header-ok w ok .some) (header-ok w ok .few) _ (r .state) (r .log) ended)))
       by (failed error) =
-          after-cond (isEnd (r .tape .rest)) _ _
-          (λ _. after-cond (leb 1 (length step / 4)) _ _ (λ _. leave w ok (r .state) ended) (λ _. ok))
-          (λ _. ok)
+          after-cond (not (isEnd (r .tape .rest))) _ _ (λ _. ok)
+          (λ _. after-cond (ltb (length step / 4) 1) _ _ (λ _. ok) (λ _. leave w ok (r .state) ended))
 
   entered : ltb lastEpoch (currentEpoch w) ≡ false → StateOk w lastEpoch w
   entered e = enter w ok lastEpoch (ltb-false lastEpoch (currentEpoch w) e)

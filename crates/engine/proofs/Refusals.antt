@@ -9,7 +9,7 @@ use lib.ListN.{length, getD, drop, replicate, length-append, length-drop, length
 use lib.Seq.{drop-at}
 use borrow.Author.Tests.{eqb-true, ltb-false, lt-leb, ne-eqb}
 use Rattle.steps.specs.Answers.{tapeOf}
-use Rattle.steps.specs.Runs.{Verdict, going, refused, failed, Run}
+use Rattle.steps.specs.Runs.{Verdict, going, refused, failed, numberOf, Run}
 use Rattle.steps.specs.Table.{tableOk}
 use Rattle.engine.specs.State.{nodes, currentEpoch, faultCount, scratchLength, scratchOf, lastEpoch, stateLength, stateOk}
 use Rattle.engine.specs.HoneyBadger.{hasInput, receivedProposals}
@@ -75,21 +75,18 @@ module _ (replies state scratch step : List ℕ) where
     module _ (l-0 : oneOf replies 0 ≡ true) (l-8 : oneOf replies 8 ≡ true) (l-9 : oneOf replies 9 ≡ true)
         (l-10 : oneOf replies 10 ≡ true) (failures : List ℕ) (among : (x : ℕ) → oneOf failures x ≡ true → oneOf replies x ≡ true) (far : AllHigh failures) where
       fine-conclude : (r : Run (List ℕ) (Unit {0})) (epoch : ℕ) → Only (oneOf failures) r → Fine (conclude r epoch state (zeroed state scratch) step)
-      unfolding concludeAs oneOf
+      unfolding concludeAs numberOf oneOf
       fine-conclude r epoch h = go (r .verdict) (h .fails)
         where
           go : (v : Verdict (Unit {0})) → Meant (oneOf failures) v → Fine (concludeAs v r epoch state (zeroed state scratch) step)
           go refused m = fine-refusal 8 l-8 refl
           go (going _) m =
-              fine-cond (isEnd (r .tape .rest))
-              (λ _. fine-cond (leb (1 + length (r .log)) (length step / 4)) (λ _. fine-end 0 _ _ l-0 refl refl) (λ _. fine-refusal 10 l-10 refl))
-              (λ _. fine-refusal 9 l-9 refl)
+              fine-cond (not (isEnd (r .tape .rest))) (λ _. fine-refusal 9 l-9 refl)
+              (λ _. fine-cond (ltb (length step / 4) (1 + length (r .log))) (λ _. fine-refusal 10 l-10 refl) (λ _. fine-end 0 _ _ l-0 refl refl))
           go (failed error) m =
-              fine-cond (isEnd (r .tape .rest))
-              (λ _. fine-cond (leb 1 (length step / 4))
-              (λ _. fine-end error _ _ (among error m) (low-not error (high failures error far m)) (refusal-not error (high failures error far m)))
-              (λ _. fine-refusal 10 l-10 refl))
-              (λ _. fine-refusal 9 l-9 refl)
+              fine-cond (not (isEnd (r .tape .rest))) (λ _. fine-refusal 9 l-9 refl)
+              (λ _. fine-cond (ltb (length step / 4) 1) (λ _. fine-refusal 10 l-10 refl)
+              (λ _. fine-end error _ _ (among error m) (low-not error (high failures error far m)) (refusal-not error (high failures error far m))))
 
 -- PROPOSE. With a further check, whose replies are `others`
 abbrev proposeCalls : List ℕ

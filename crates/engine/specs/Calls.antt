@@ -7,7 +7,7 @@ use lib.Dec.{eqb, leb, ltb}
 use Rattle.steps.specs.Table.{handle, within, tableOk}
 use Rattle.steps.specs.Answers.{Rec, Tape, tapeOf}
 use Rattle.steps.specs.Steps.{Entry, faults, written, writtenFailed}
-use Rattle.steps.specs.Runs.{Verdict, going, refused, failed, Run}
+use Rattle.steps.specs.Runs.{Verdict, going, refused, failed, numberOf, Run}
 use Rattle.epoch.specs.declared.MessageContent.{MessageContent}
 use Rattle.epoch.specs.declared.MessageContent.the-variants.{Broadcast, Agreement, DecryptionShare}
 use Rattle.engine.specs.State.{nodes, currentEpoch, faultCount, scratchOf, lastEpoch, faultsAt, faultLimit, stateOk}
@@ -38,24 +38,20 @@ unfoldable pub isEnd : List Rec → Bool
 isEnd [] = true
 isEnd (r ∷ rs) = false
 
--- what a run comes to: 8, 9 and 10 leave the state and the step table untouched, a failure loses the step
+-- what a run comes to: 8, 9 and 10, in this order, leave the state and the step table untouched; a failure loses the step
 unfoldable pub concludeAs : Verdict (Unit {0}) → Run (List ℕ) (Unit {0}) → ℕ → List ℕ → List ℕ → List ℕ → After
-concludeAs refused r epoch state scratch step = after 8 state scratch step
-concludeAs (going _) r epoch state scratch step =
+concludeAs refused r epoch state scratch step = after (numberOf {A = Unit {0}} refused) state scratch step
+concludeAs (going a) r epoch state scratch step =
     -- "9: answers remain unread"
-    cond (isEnd (r .tape .rest))
+    cond (not (isEnd (r .tape .rest))) (after 9 state scratch step)
     -- "10: the step table has fewer whole records than the step"
-    (cond (leb (1 + length (r .log)) (length step / 4))
-    (after 0 (countFaults (r .state) (r .log)) scratch (written step (r .log) epoch))
-    (after 10 state scratch step))
-    (after 9 state scratch step)
+    (cond (ltb (length step / 4) (1 + length (r .log))) (after 10 state scratch step)
+    (after (numberOf (going a)) (countFaults (r .state) (r .log)) scratch (written step (r .log) epoch)))
 concludeAs (failed error) r epoch state scratch step =
-    cond (isEnd (r .tape .rest))
+    cond (not (isEnd (r .tape .rest))) (after 9 state scratch step)
     -- "and 10 if no header fits"
-    (cond (leb 1 (length step / 4))
-    (after error (r .state) scratch (writtenFailed step epoch))
-    (after 10 state scratch step))
-    (after 9 state scratch step)
+    (cond (ltb (length step / 4) 1) (after 10 state scratch step)
+    (after (numberOf {A = Unit {0}} (failed error)) (r .state) scratch (writtenFailed step epoch)))
 
 abbrev pub conclude : Run (List ℕ) (Unit {0}) → ℕ → List ℕ → List ℕ → List ℕ → After
 conclude r epoch state scratch step = concludeAs (r .verdict) r epoch state scratch step

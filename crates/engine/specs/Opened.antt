@@ -19,7 +19,7 @@ unfolding EpochOpened.opened
     Calls.zeroed Calls.countFaults Calls.isEnd Calls.concludeAs Calls.proposeAfter Calls.contentOk Calls.itemOk Calls.contentOf
     Calls.messageCall Calls.skipReply Calls.skipState Calls.queryReply Calls.currentEpochResult Calls.hasInputResult
     Calls.receivedProposalsResult Calls.faultCountResult
-    Work.built Work.epochCall Work.batchesFrom Work.beside Work.workIn Work.proposeWork Work.messageWork Work.committed Work.settledAs
+    Work.built Work.epochCall Work.batchesFrom Work.beside Work.workIn Work.proposeWork Work.messageWork Work.committed
     Create.numberTests Create.created Create.createReply Create.createState
     History.turnOf History.stateAfter History.turns History.noneFails History.entriesIn History.batchesIn History.fivesIn
     History.eventsOf History.currentAfter History.history History.taken History.decrypted History.plaintext
