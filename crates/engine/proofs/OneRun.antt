@@ -96,13 +96,13 @@ hand-later n f encrypted vs ds ts vs′ ds′ ts′ gv gd gt b rs h =
     go q false = gv (b .epoch) q
 
 -- the proposer that a 12 concerns at a message's begin
-share-is : (w scratch answers step : List ℕ) (sender epoch content proposer item : ℕ) → contentOk w scratch answers step sender epoch content proposer item ≡ true
-    → shareOf proposer (contentOf w scratch answers step sender epoch content proposer item) ≡ cond (eqb content 3) (some proposer) none
+share-is : (n content proposer item : ℕ) → contentOk n content proposer ≡ true
+    → shareOf proposer (contentOf content item) ≡ cond (eqb content 3) (some proposer) none
 unfolding contentOk contentOf shareOf
-share-is w scratch answers step sender epoch content proposer item ok = by (eqb content 1) refl (eqb content 2) refl (eqb content 3) refl
+share-is n content proposer item ok = by (eqb content 1) refl (eqb content 2) refl (eqb content 3) refl
   where
     range : within 1 3 content ≡ true
-    range = and-true (within 1 3 content) (ltb proposer (nodes w)) (and-true (within 1 3 content && ltb proposer (nodes w)) _ ok .0) .0
+    range = and-true (within 1 3 content) (ltb proposer n) ok .0
 
     low : 1 ≤ content
     low = leb-true 1 content (and-true (leb 1 content) (leb content 3) range .0)
@@ -123,10 +123,9 @@ share-is w scratch answers step sender epoch content proposer item ok = by (eqb 
         let c : content ≡ 3 → ⊥ = eqb-false content 3 k in
         absurd (omega (arith, low, high))
 
-pub named-below : (w scratch answers step : List ℕ) (sender epoch content proposer item : ℕ) → contentOk w scratch answers step sender epoch content proposer item ≡ true → proposer < nodes w
+pub named-below : (n content proposer : ℕ) → contentOk n content proposer ≡ true → proposer < n
 unfolding contentOk
-named-below w scratch answers step sender epoch content proposer item ok =
-    ltb-true proposer (nodes w) (and-true (within 1 3 content) (ltb proposer (nodes w)) (and-true (within 1 3 content && ltb proposer (nodes w)) _ ok .0) .1)
+named-below n content proposer ok = ltb-true proposer n (and-true (within 1 3 content) (ltb proposer n) ok .1)
 
 skip-passes : (target : ℕ) (w : List ℕ) → skipReply target w ≡ 0 → stateOk w ≡ true
 unfolding skipReply
@@ -190,16 +189,16 @@ module _ (Holds : NetworkInfo → SubsetHandlingStrategy → Bool → List ℕ �
       (messageCall w scratch answers step sender epoch content proposer item .state)
   handled w cur vs ds ts h sender epoch content proposer item scratch answers step e =
       let p = message-passes w scratch answers step sender epoch content proposer item e in
-      let c = contentOf w scratch answers step sender epoch content proposer item in
+      let c = contentOf content item in
       let run = handleMessage sender epoch proposer c w (tapeOf answers) in
       let same = h .shaped .nodes in
       let good : Good (nodes w₀) (tapeOf answers .rest) = rw same at (table-good (nodes w) answers (p .1)) in
       let sent : sender < nodes w₀ = rw same at (p .2) in
-      let below : proposer < nodes w₀ = rw same at (named-below w scratch answers step sender epoch content proposer item (p .3)) in
+      let below : proposer < nodes w₀ = rw same at (named-below (nodes w) content proposer (p .3)) in
       let m = gives-out run _ tt (handled-ok Holds laws w₀ network sender epoch proposer c sent below w cur vs ds ts (tapeOf answers) h good) (p .4 .goes) in
       rw (p .4 .state)
       (stepped cur vs ds ts (event epoch (cond (eqb content 3) (some proposer) none) answers (messageCall w scratch answers step sender epoch content proposer item .step)) (run .state) (run .log)
-      (rw (p .4 .rest, share-is w scratch answers step sender epoch content proposer item (p .3)) at m)
+      (rw (p .4 .rest, share-is (nodes w) content proposer item (p .3)) at m)
       (ap batchesOf (p .4 .written) ∙ batches-read step (run .log) epoch)
       (ap fivesOf (p .4 .written) ∙ fives-read step (run .log) epoch))
 

@@ -10,11 +10,11 @@ use borrow.Author.Tests.{eqb-true, not-false, leb-true, leb-false, le-leb, lt-lt
 use Rattle.steps.specs.Answers.{Rec, tapeOf}
 use Rattle.steps.specs.Steps.{written}
 use Rattle.steps.specs.Table.{tableOk}
-use Rattle.steps.specs.Runs.{Verdict, going, refused, failed, Run}
+use Rattle.steps.specs.Runs.{Verdict, going, refused, failed, numberOf, Run}
 use Rattle.steps.proofs.Laws.{and-true}
-use Rattle.engine.specs.State.{nodes, currentEpoch, lastEpoch, stateOk}
+use Rattle.engine.specs.State.{nodes, currentEpoch, scratchOf, lastEpoch, stateOk}
 use Rattle.engine.specs.HoneyBadger.{propose, handleMessage}
-use Rattle.engine.specs.Calls.{After, zeroed, countFaults, isEnd, concludeAs, conclude, proposeCall, contentOk, contentOf, messageCall, skipReply}
+use Rattle.engine.specs.Calls.{After, zeroed, countFaults, isEnd, concludeAs, conclude, proposeAfter, proposeCall, contentOk, itemOk, contentOf, messageCall, skipReply}
 use Rattle.engine.specs.Laws.{isRefusal, oneOf, proposeFailures, proposeReplies, messageFailures, messageReplies}
 use Rattle.engine.specs.History.{Call, turnOf, stateAfter}
 use Rattle.engine.specs.History.{propose as proposing, message as messaging, skip as skipping}
@@ -40,7 +40,7 @@ at-end (r ∷ rs) e = absurd (false≢true e)
 
 conclude-passes : (failures : List ℕ) → oneOf failures 0 ≡ false → (run : Run (List ℕ) (Unit {0})) (epoch : ℕ) (state scratch step : List ℕ) → Meant (oneOf failures) (run .verdict)
     → conclude run epoch state scratch step .reply ≡ 0 → Passed run epoch step (conclude run epoch state scratch step)
-unfolding concludeAs
+unfolding concludeAs numberOf
 conclude-passes failures not-0 run epoch state scratch step m = go (run .verdict) refl m
   where
     P : After → Type 0
@@ -50,58 +50,64 @@ conclude-passes failures not-0 run epoch state scratch step m = go (run .verdict
         → Passed run epoch step (concludeAs v run epoch state scratch step)
     go refused e m = λ z. absurd (omega arith)
     go (going x) e m =
-        through (isEnd (run .tape .rest)) _ _ P
-        (λ i. through (leb (1 + length (run .log)) (length step / 4)) _ _ P (λ _ z. record { goes = e; rest = at-end (run .tape .rest) i; state = refl; written = refl }) (λ _ z. absurd (omega arith)))
-        (λ _ z. absurd (omega arith))
+        through (not (isEnd (run .tape .rest))) _ _ P (λ _ z. absurd (omega arith))
+        (λ i. through (ltb (length step / 4) (1 + length (run .log))) _ _ P (λ _ z. absurd (omega arith))
+        (λ _ z. record { goes = e; rest = at-end (run .tape .rest) (not-false _ i); state = refl; written = refl }))
     go (failed error) e m =
-        through (isEnd (run .tape .rest)) _ _ P
-        (λ i. through (leb 1 (length step / 4)) _ _ P (λ _ z. absurd (false≢true (sym not-0 ∙ (ap (oneOf failures) (sym z) ∙ m)))) (λ _ z. absurd (omega arith)))
-        (λ _ z. absurd (omega arith))
+        through (not (isEnd (run .tape .rest))) _ _ P (λ _ z. absurd (omega arith))
+        (λ i. through (ltb (length step / 4) 1) _ _ P (λ _ z. absurd (omega arith))
+        (λ _ z. absurd (false≢true (sym not-0 ∙ (ap (oneOf failures) (sym z) ∙ m)))))
 
 module _ (w scratch answers step : List ℕ) where
-  pub propose-passes : proposeCall w scratch answers step .reply ≡ 0
-      → (stateOk w ≡ true) × (tableOk (nodes w) answers ≡ true) × Passed (propose w (tapeOf answers)) (currentEpoch w) step (proposeCall w scratch answers step)
-  unfolding proposeCall oneOf
-  propose-passes =
+  pub propose-after-passes : (g : ℕ) → proposeAfter w scratch answers step g .reply ≡ 0
+      → (stateOk w ≡ true) × (tableOk (nodes w) answers ≡ true) × Passed (propose w (tapeOf answers)) (currentEpoch w) step (proposeAfter w scratch answers step g)
+  unfolding proposeAfter oneOf
+  propose-after-passes g =
       through (not (stateOk w)) _ _ P (λ _ z. absurd (omega arith))
-      (λ ok. through (ltb (length scratch) (length w)) _ _ P (λ _ z. absurd (omega arith))
+      (λ ok. through (ltb (length scratch) (scratchOf w)) _ _ P (λ _ z. absurd (omega arith))
       (λ _. through (not (tableOk (nodes w) answers)) _ _ P (λ _ z. absurd (omega arith))
       (λ table. through (ltb lastEpoch (currentEpoch w)) _ _ P (λ _ z. absurd (omega arith))
+      (λ _. through (not (eqb g 0)) _ _ P (λ t z. absurd (false≢true (rw z at t)))
       (λ _ z. (
         not-false _ ok,
         not-false _ table,
         conclude-passes proposeFailures refl (propose w (tapeOf answers)) (currentEpoch w) w (zeroed w scratch) step
             (only-propose (oneOf proposeFailures) refl refl refl refl refl w (tapeOf answers) .fails) z,
-      )))))
+      ))))))
     where
       P : After → Type 0
       P r = (stateOk w ≡ true) × (tableOk (nodes w) answers ≡ true) × Passed (propose w (tapeOf answers)) (currentEpoch w) step r
 
+  pub propose-passes : proposeCall w scratch answers step .reply ≡ 0
+      → (stateOk w ≡ true) × (tableOk (nodes w) answers ≡ true) × Passed (propose w (tapeOf answers)) (currentEpoch w) step (proposeCall w scratch answers step)
+  propose-passes = propose-after-passes 0
+
   module _ (sender epoch content proposer item : ℕ) where
     pub message-passes : messageCall w scratch answers step sender epoch content proposer item .reply ≡ 0
-        → (stateOk w ≡ true) × (tableOk (nodes w) answers ≡ true) × (sender < nodes w) × (contentOk w scratch answers step sender epoch content proposer item ≡ true)
-        × Passed (handleMessage sender epoch proposer (contentOf w scratch answers step sender epoch content proposer item) w (tapeOf answers)) epoch step
+        → (stateOk w ≡ true) × (tableOk (nodes w) answers ≡ true) × (sender < nodes w) × (contentOk (nodes w) content proposer ≡ true)
+        × Passed (handleMessage sender epoch proposer (contentOf content item) w (tapeOf answers)) epoch step
         (messageCall w scratch answers step sender epoch content proposer item)
     unfolding messageCall oneOf
     message-passes =
         through (not (stateOk w)) _ _ P (λ _ z. absurd (omega arith))
-        (λ ok. through (ltb (length scratch) (length w)) _ _ P (λ _ z. absurd (omega arith))
+        (λ ok. through (ltb (length scratch) (scratchOf w)) _ _ P (λ _ z. absurd (omega arith))
         (λ _. through (not (tableOk (nodes w) answers)) _ _ P (λ _ z. absurd (omega arith))
         (λ table. through (leb (nodes w) sender) _ _ P (λ _ z. absurd (omega arith))
-        (λ sent. through (not (contentOk w scratch answers step sender epoch content proposer item)) _ _ P (λ _ z. absurd (omega arith))
-        (λ fine. through (ltb lastEpoch (currentEpoch w)) _ _ P (λ _ z. absurd (omega arith))
+        (λ sent. through (not (contentOk (nodes w) content proposer)) _ _ P (λ _ z. absurd (omega arith))
+        (λ fine. through (not (itemOk content item)) _ _ P (λ _ z. absurd (omega arith))
+        (λ _. through (ltb lastEpoch (currentEpoch w)) _ _ P (λ _ z. absurd (omega arith))
         (λ _ z. (
           not-false _ ok,
           not-false _ table,
           leb-false (nodes w) sender sent,
           not-false _ fine,
-          conclude-passes messageFailures refl (handleMessage sender epoch proposer (contentOf w scratch answers step sender epoch content proposer item) w (tapeOf answers)) epoch w (zeroed w scratch) step
-              (only-message (oneOf messageFailures) refl refl refl refl sender epoch proposer (contentOf w scratch answers step sender epoch content proposer item) w (tapeOf answers) .fails) z,
-        )))))))
+          conclude-passes messageFailures refl (handleMessage sender epoch proposer (contentOf content item) w (tapeOf answers)) epoch w (zeroed w scratch) step
+              (only-message (oneOf messageFailures) refl refl refl refl sender epoch proposer (contentOf content item) w (tapeOf answers) .fails) z,
+        ))))))))
       where
         P : After → Type 0
-        P r = (stateOk w ≡ true) × (tableOk (nodes w) answers ≡ true) × (sender < nodes w) × (contentOk w scratch answers step sender epoch content proposer item ≡ true)
-            × Passed (handleMessage sender epoch proposer (contentOf w scratch answers step sender epoch content proposer item) w (tapeOf answers)) epoch step r
+        P r = (stateOk w ≡ true) × (tableOk (nodes w) answers ≡ true) × (sender < nodes w) × (contentOk (nodes w) content proposer ≡ true)
+            × Passed (handleMessage sender epoch proposer (contentOf content item) w (tapeOf answers)) epoch step r
 
 -- OTHER REPLIES BELOW 20. All of a list's numbers below 20 are at most 12
 unfoldable pub allLow : List ℕ → Bool

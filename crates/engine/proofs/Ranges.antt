@@ -20,9 +20,9 @@ use Rattle.epoch.specs.declared.MessageContent.the-variants.{Broadcast, Agreeme
 use Rattle.epoch.specs.Words.{isVacant}
 use Rattle.epoch.specs.Batch.{isReady, outputBatch}
 use Rattle.epoch.proofs.Ranges.{ContentOk, new-epoch-ok, batch-safe, propose-safe, content-safe}
-use Rattle.engine.specs.State.{nodes, ahead, currentEpoch, faultCount, lastEpoch, faultLimit, inputAt, faultsAt, epochAt, netOf, strategyOf, encryptedIn, epochWords, withEpoch, withoutEpoch, stateOk}
+use Rattle.engine.specs.State.{nodes, ahead, currentEpoch, faultCount, scratchOf, lastEpoch, faultLimit, inputAt, faultsAt, epochAt, netOf, strategyOf, encryptedIn, epochWords, withEpoch, withoutEpoch, stateOk}
 use Rattle.engine.specs.HoneyBadger.{updateEpoch, epochStateMut, inEpoch, tryOutputBatches, propose, handleMessage, clearBelow, skipToEpoch}
-use Rattle.engine.specs.Calls.{After, countFaults, isEnd, concludeAs, proposeCall, messageCall, contentOk, contentOf, skipReply, skipState}
+use Rattle.engine.specs.Calls.{After, countFaults, isEnd, concludeAs, proposeAfter, messageCall, contentOk, itemOk, contentOf, skipReply, skipState}
 use Rattle.engine.specs.History.{propose as proposing, message as messaging, skip as skipping, stateAfter}
 use Rattle.engine.specs.Rule.{CallsInRange}
 use Rattle.engine.proofs.RangesState.{StateOk, input-ok, epoch-ok, faults-ok, nodes-same, ahead-same, current-below, words-ok, with-ok, without-ok, state-wider, header-ok, enter, leave}
@@ -156,13 +156,12 @@ module _ (w : List ℕ) (ok : stateOk w ≡ true) where
       by : (v : Verdict (Unit {0})) → stateOk (concludeAs v r epoch w scratch step .state) ≡ true
       by refused = ok
       by (going x) =
-          after-cond (isEnd (r .tape .rest)) _ _
-          (λ _. after-cond (leb (1 + length (r .log)) (length step / 4)) _ _ (λ _. leave w ok _ (count-ok w (header-ok w ok .some) (header-ok w ok .few) _ (r .state) (r .log) ended)) (λ _. ok))
-          (λ _. ok)
+          after-cond (not (isEnd (r .tape .rest))) _ _ (λ _. ok)
+          (λ _. after-cond (ltb (length step / 4) (1 + length (r .log))) _ _ (λ _. ok)
+          (λ _. leave w ok _ (count-ok w (header-ok w ok .some) (header-ok w ok .few) _ (r .state) (r .log) ended)))
       by (failed error) =
-          after-cond (isEnd (r .tape .rest)) _ _
-          (λ _. after-cond (leb 1 (length step / 4)) _ _ (λ _. leave w ok (r .state) ended) (λ _. ok))
-          (λ _. ok)
+          after-cond (not (isEnd (r .tape .rest))) _ _ (λ _. ok)
+          (λ _. after-cond (ltb (length step / 4) 1) _ _ (λ _. ok) (λ _. leave w ok (r .state) ended))
 
   entered : ltb lastEpoch (currentEpoch w) ≡ false → StateOk w lastEpoch w
   entered e = enter w ok lastEpoch (ltb-false lastEpoch (currentEpoch w) e)
@@ -170,43 +169,47 @@ module _ (w : List ℕ) (ok : stateOk w ≡ true) where
   answers-small : (answers : List ℕ) → not (tableOk (nodes w) answers) ≡ false → AllSmall (tapeOf answers .rest)
   answers-small answers e = table-small (nodes w) answers (header-ok w ok .few) (not-false _ e)
 
-  propose-in-range : (scratch answers step : List ℕ) → stateOk (proposeCall w scratch answers step .state) ≡ true
-  unfolding proposeCall
-  propose-in-range scratch answers step =
+  -- g is the reply of a further check, 0 for propose
+  pub propose-in-range : (scratch answers step : List ℕ) (g : ℕ) → stateOk (proposeAfter w scratch answers step g .state) ≡ true
+  unfolding proposeAfter
+  propose-in-range scratch answers step g =
       after-cond (not (stateOk w)) _ _ (λ _. ok)
-      (λ _. after-cond (ltb (length scratch) (length w)) _ _ (λ _. ok)
+      (λ _. after-cond (ltb (length scratch) (scratchOf w)) _ _ (λ _. ok)
       (λ _. after-cond (not (tableOk (nodes w) answers)) _ _ (λ _. ok)
       (λ t. after-cond (ltb lastEpoch (currentEpoch w)) _ _ (λ _. ok)
-      (λ e. conclude-ok _ (propose w (tapeOf answers)) _ _ step
-      (propose-run w (header-ok w ok .some) (header-ok w ok .few) lastEpoch w (tapeOf answers) (entered e) (answers-small answers t))))))
+      (λ e. after-cond (not (eqb g 0)) _ _ (λ _. ok)
+      (λ _. conclude-ok _ (propose w (tapeOf answers)) _ _ step
+      (propose-run w (header-ok w ok .some) (header-ok w ok .few) lastEpoch w (tapeOf answers) (entered e) (answers-small answers t)))))))
 
-  module _ (scratch answers step : List ℕ) (sender epoch content proposer item : ℕ) where
-    content-ok : contentOk w scratch answers step sender epoch content proposer item ≡ true → ContentOk (contentOf w scratch answers step sender epoch content proposer item)
-    unfolding contentOk contentOf ContentOk
-    content-ok e = by (eqb content 1) (eqb content 2) (and-true (within 1 3 content && ltb proposer (nodes w)) _ e .1)
-      where
-        by : (x y : Bool) → cond (eqb content 3) (handle item) (eqb item 0) ≡ true → ContentOk (cond x Broadcast (cond y Agreement (DecryptionShare item)))
-        by true y h = tt
-        by false true h = tt
-        by false false h =
-            by-test (eqb content 3) (handle item) (eqb item 0) h
-            (λ _ u. omega (arith, leb-true item 4294967295 (and-true (leb 1 item) _ u .1)))
-            (λ _ u. omega (arith, eqb-true item 0 u))
+  content-ok : (content item : ℕ) → itemOk content item ≡ true → ContentOk (contentOf content item)
+  unfolding itemOk contentOf ContentOk
+  content-ok content item e = by (eqb content 1) (eqb content 2) e
+    where
+      by : (x y : Bool) → cond (eqb content 3) (handle item) (eqb item 0) ≡ true → ContentOk (cond x Broadcast (cond y Agreement (DecryptionShare item)))
+      by true y h = tt
+      by false true h = tt
+      by false false h =
+          by-test (eqb content 3) (handle item) (eqb item 0) h
+          (λ _ u. omega (arith, leb-true item 4294967295 (and-true (leb 1 item) _ u .1)))
+          (λ _ u. omega (arith, eqb-true item 0 u))
 
-    message-in-range : stateOk (messageCall w scratch answers step sender epoch content proposer item .state) ≡ true
-    unfolding messageCall contentOk
-    message-in-range =
-        after-cond (not (stateOk w)) _ _ (λ _. ok)
-        (λ _. after-cond (ltb (length scratch) (length w)) _ _ (λ _. ok)
-        (λ _. after-cond (not (tableOk (nodes w) answers)) _ _ (λ _. ok)
-        (λ t. after-cond (leb (nodes w) sender) _ _ (λ _. ok)
-        (λ _. after-cond (not (contentOk w scratch answers step sender epoch content proposer item)) _ _ (λ _. ok)
-        (λ c. after-cond (ltb lastEpoch (currentEpoch w)) _ _ (λ _. ok)
-        (λ e. conclude-ok _ (handleMessage sender epoch proposer (contentOf w scratch answers step sender epoch content proposer item) w (tapeOf answers)) epoch _ step
-        (message-run w (header-ok w ok .some) (header-ok w ok .few) lastEpoch sender epoch proposer _ (known (not-false _ c)) (content-ok (not-false _ c)) w (tapeOf answers) (entered e) (answers-small answers t))))))))
-      where
-        known : contentOk w scratch answers step sender epoch content proposer item ≡ true → proposer < nodes w
-        known e = ltb-true _ _ (and-true (within 1 3 content) _ (and-true (within 1 3 content && ltb proposer (nodes w)) _ e .0) .1)
+  proposer-known : (content proposer : ℕ) → contentOk (nodes w) content proposer ≡ true → proposer < nodes w
+  unfolding contentOk
+  proposer-known content proposer e = ltb-true _ _ (and-true (within 1 3 content) _ e .1)
+
+  message-in-range : (scratch answers step : List ℕ) (sender epoch content proposer item : ℕ)
+      → stateOk (messageCall w scratch answers step sender epoch content proposer item .state) ≡ true
+  unfolding messageCall
+  message-in-range scratch answers step sender epoch content proposer item =
+      after-cond (not (stateOk w)) _ _ (λ _. ok)
+      (λ _. after-cond (ltb (length scratch) (scratchOf w)) _ _ (λ _. ok)
+      (λ _. after-cond (not (tableOk (nodes w) answers)) _ _ (λ _. ok)
+      (λ t. after-cond (leb (nodes w) sender) _ _ (λ _. ok)
+      (λ _. after-cond (not (contentOk (nodes w) content proposer)) _ _ (λ _. ok)
+      (λ c. after-cond (not (itemOk content item)) _ _ (λ _. ok)
+      (λ i. after-cond (ltb lastEpoch (currentEpoch w)) _ _ (λ _. ok)
+      (λ e. conclude-ok _ (handleMessage sender epoch proposer (contentOf content item) w (tapeOf answers)) epoch _ step
+      (message-run w (header-ok w ok .some) (header-ok w ok .few) lastEpoch sender epoch proposer _ (proposer-known content proposer (not-false _ c)) (content-ok content item (not-false _ i)) w (tapeOf answers) (entered e) (answers-small answers t)))))))))
 
   skip-in-range : (target : ℕ) → stateOk (skipState target w) ≡ true
   unfolding skipState skipReply
@@ -221,6 +224,6 @@ module _ (w : List ℕ) (ok : stateOk w ≡ true) where
 -- "no state the engine leaves breaks them"
 pub calls-in-range : CallsInRange
 unfolding stateAfter
-calls-in-range w (proposing scratch answers step) ok = propose-in-range w ok scratch answers step
+calls-in-range w (proposing scratch answers step) ok = propose-in-range w ok scratch answers step 0
 calls-in-range w (messaging sender epoch content proposer item scratch answers step) ok = message-in-range w ok scratch answers step sender epoch content proposer item
 calls-in-range w (skipping target) ok = skip-in-range w ok target

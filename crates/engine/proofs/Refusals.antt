@@ -9,15 +9,16 @@ use lib.ListN.{length, getD, drop, replicate, length-append, length-drop, length
 use lib.Seq.{drop-at}
 use borrow.Author.Tests.{eqb-true, ltb-false, lt-leb, ne-eqb}
 use Rattle.steps.specs.Answers.{tapeOf}
-use Rattle.steps.specs.Runs.{Verdict, going, refused, failed, Run}
+use Rattle.steps.specs.Runs.{Verdict, going, refused, failed, numberOf, Run}
 use Rattle.steps.specs.Table.{tableOk}
-use Rattle.engine.specs.State.{nodes, currentEpoch, faultCount, lastEpoch, stateLength, stateOk}
+use Rattle.engine.specs.State.{nodes, currentEpoch, faultCount, scratchLength, scratchOf, lastEpoch, stateLength, stateOk}
 use Rattle.engine.specs.HoneyBadger.{hasInput, receivedProposals}
-use Rattle.engine.specs.Calls.{After, after, zeroed, isEnd, concludeAs, conclude, proposeCall, contentOk, messageCall, skipReply, skipState, queryReply, currentEpochResult, hasInputResult, receivedProposalsResult, faultCountResult}
+use Rattle.engine.specs.Calls.{After, after, zeroed, isEnd, concludeAs, conclude, proposeAfter, proposeCall, contentOk, itemOk, messageCall, skipReply, skipState, queryReply, currentEpochResult, hasInputResult, receivedProposalsResult, faultCountResult}
 use Rattle.engine.specs.Create.{Numbers, numbersOk, createReply, createState}
 use Rattle.engine.specs.Laws.{isRefusal, oneOf, proposeFailures, proposeReplies, messageFailures, messageReplies, Promised}
 use Rattle.engine.proofs.Bools.{never}
 use Rattle.engine.proofs.Fails.{Meant, Only, only-propose, only-message}
+use Rattle.engine.proofs.RangesState.{shaped}
 
 -- numbers of a list
 more : (y : ℕ) (ys : List ℕ) (x : ℕ) → oneOf ys x ≡ true → oneOf (y ∷ ys) x ≡ true
@@ -46,20 +47,20 @@ high (y ∷ ys) x a h = go (eqb x y) refl h (high ys x (a .1))
     go false e k ih = ih k
 
 -- a call, by its branches
-module _ (calls failures : List ℕ) (state scratch step : List ℕ) where
+module _ (replies state scratch step : List ℕ) where
   abbrev Fine : After → Type 0
-  Fine r = Promised (calls ++ failures) state scratch step r
+  Fine r = Promised replies state scratch step r
 
   fine-cond : (t : Bool) {x y : After} → (t ≡ true → Fine x) → (t ≡ false → Fine y) → Fine (cond t x y)
   fine-cond true h k = h refl
   fine-cond false h k = k refl
 
   -- a refusal, or success, with the scratch zeroed
-  module _ (room : length state ≤ length scratch) where
-    fine-refusal : (n : ℕ) → oneOf (calls ++ failures) n ≡ true → oneOf (3 ∷ 4 ∷ []) n ≡ false → Fine (after n state (zeroed state scratch) step)
+  module _ (room : scratchOf state ≤ length scratch) where
+    fine-refusal : (n : ℕ) → oneOf replies n ≡ true → oneOf (3 ∷ 4 ∷ []) n ≡ false → Fine (after n state (zeroed state scratch) step)
     fine-refusal n l o = record { listed = l; refusal = λ _. (refl, refl); zeros = rw o; room = λ _. room }
 
-    fine-end : (n : ℕ) (state′ step′ : List ℕ) → oneOf (calls ++ failures) n ≡ true → oneOf (3 ∷ 4 ∷ []) n ≡ false → isRefusal n ≡ false
+    fine-end : (n : ℕ) (state′ step′ : List ℕ) → oneOf replies n ≡ true → oneOf (3 ∷ 4 ∷ []) n ≡ false → isRefusal n ≡ false
         → Fine (after n state′ (zeroed state scratch) step′)
     fine-end n state′ step′ l o i =
         record { listed = l; refusal = λ h. never (sym h ∙ i); zeros = rw o; room = λ _. room }
@@ -71,48 +72,57 @@ module _ (calls failures : List ℕ) (state scratch step : List ℕ) where
     refusal-not : (n : ℕ) → 20 ≤ n → isRefusal n ≡ false
     refusal-not n h = rw (lt-leb n 12 (omega arith)) (and-false (leb 1 n))
 
-    module _ (l-0 : oneOf (calls ++ failures) 0 ≡ true) (l-8 : oneOf (calls ++ failures) 8 ≡ true) (l-9 : oneOf (calls ++ failures) 9 ≡ true)
-        (l-10 : oneOf (calls ++ failures) 10 ≡ true) (far : AllHigh failures) where
+    module _ (l-0 : oneOf replies 0 ≡ true) (l-8 : oneOf replies 8 ≡ true) (l-9 : oneOf replies 9 ≡ true)
+        (l-10 : oneOf replies 10 ≡ true) (failures : List ℕ) (among : (x : ℕ) → oneOf failures x ≡ true → oneOf replies x ≡ true) (far : AllHigh failures) where
       fine-conclude : (r : Run (List ℕ) (Unit {0})) (epoch : ℕ) → Only (oneOf failures) r → Fine (conclude r epoch state (zeroed state scratch) step)
-      unfolding concludeAs oneOf
+      unfolding concludeAs numberOf oneOf
       fine-conclude r epoch h = go (r .verdict) (h .fails)
         where
           go : (v : Verdict (Unit {0})) → Meant (oneOf failures) v → Fine (concludeAs v r epoch state (zeroed state scratch) step)
           go refused m = fine-refusal 8 l-8 refl
           go (going _) m =
-              fine-cond (isEnd (r .tape .rest))
-              (λ _. fine-cond (leb (1 + length (r .log)) (length step / 4)) (λ _. fine-end 0 _ _ l-0 refl refl) (λ _. fine-refusal 10 l-10 refl))
-              (λ _. fine-refusal 9 l-9 refl)
+              fine-cond (not (isEnd (r .tape .rest))) (λ _. fine-refusal 9 l-9 refl)
+              (λ _. fine-cond (ltb (length step / 4) (1 + length (r .log))) (λ _. fine-refusal 10 l-10 refl) (λ _. fine-end 0 _ _ l-0 refl refl))
           go (failed error) m =
-              fine-cond (isEnd (r .tape .rest))
-              (λ _. fine-cond (leb 1 (length step / 4))
-              (λ _. fine-end error _ _ (more-by calls failures error m) (low-not error (high failures error far m)) (refusal-not error (high failures error far m)))
-              (λ _. fine-refusal 10 l-10 refl))
-              (λ _. fine-refusal 9 l-9 refl)
+              fine-cond (not (isEnd (r .tape .rest))) (λ _. fine-refusal 9 l-9 refl)
+              (λ _. fine-cond (ltb (length step / 4) 1) (λ _. fine-refusal 10 l-10 refl)
+              (λ _. fine-end error _ _ (among error m) (low-not error (high failures error far m)) (refusal-not error (high failures error far m))))
 
--- PROPOSE
+-- PROPOSE. With a further check, whose replies are `others`
 abbrev proposeCalls : List ℕ
 proposeCalls = 0 ∷ 3 ∷ 4 ∷ 5 ∷ 6 ∷ 8 ∷ 9 ∷ 10 ∷ []
 
-pub propose-promised : (state scratch answers step : List ℕ) → Promised proposeReplies state scratch step (proposeCall state scratch answers step)
-unfolding proposeCall oneOf
-propose-promised state scratch answers step =
-    fine (not (stateOk state)) (λ _. record { listed = refl; refusal = λ _. (refl, refl); zeros = refl; room = never })
-    (λ _. fine (ltb (length scratch) (length state)) (λ _. record { listed = refl; refusal = λ _. (refl, refl); zeros = refl; room = never })
-    (λ l. let room : length state ≤ length scratch = ltb-false _ _ l in
-    fine (not (tableOk (nodes state) answers)) (λ _. turned room 5 refl refl)
-    (λ _. fine (ltb lastEpoch (currentEpoch state)) (λ _. turned room 6 refl refl)
-    (λ _. fine-conclude proposeCalls proposeFailures state scratch step room refl refl refl refl far
-    _ (currentEpoch state) (only-propose (oneOf proposeFailures) refl refl refl refl refl state (tapeOf answers))))))
+pub propose-after-promised : (others state scratch answers step : List ℕ) (g : ℕ) → oneOf (others ++ proposeReplies) g ≡ true → oneOf (3 ∷ 4 ∷ []) g ≡ false
+    → Promised (others ++ proposeReplies) state scratch step (proposeAfter state scratch answers step g)
+unfolding proposeAfter oneOf
+propose-after-promised others state scratch answers step g more-g not-g =
+    fine (not (stateOk state)) (λ _. record { listed = old 3 refl; refusal = λ _. (refl, refl); zeros = refl; room = never })
+    (λ _. fine (ltb (length scratch) (scratchOf state)) (λ _. record { listed = old 4 refl; refusal = λ _. (refl, refl); zeros = refl; room = never })
+    (λ l. let room : scratchOf state ≤ length scratch = ltb-false _ _ l in
+    fine (not (tableOk (nodes state) answers)) (λ _. turned room 5 (old 5 refl) refl)
+    (λ _. fine (ltb lastEpoch (currentEpoch state)) (λ _. turned room 6 (old 6 refl) refl)
+    (λ _. fine (not (eqb g 0)) (λ _. turned room g more-g not-g)
+    (λ _. fine-conclude (others ++ proposeReplies) state scratch step room (old 0 refl) (old 8 refl) (old 9 refl) (old 10 refl)
+    proposeFailures (λ x m. old x (more-by proposeCalls proposeFailures x m)) far
+    _ (currentEpoch state) (only-propose (oneOf proposeFailures) refl refl refl refl refl state (tapeOf answers)))))))
   where
-    fine : (t : Bool) {x y : After} → (t ≡ true → Promised proposeReplies state scratch step x) → (t ≡ false → Promised proposeReplies state scratch step y) → Promised proposeReplies state scratch step (cond t x y)
-    fine = fine-cond proposeCalls proposeFailures state scratch step
+    old : (x : ℕ) → oneOf proposeReplies x ≡ true → oneOf (others ++ proposeReplies) x ≡ true
+    old x h = more-by others proposeReplies x h
 
-    turned : length state ≤ length scratch → (n : ℕ) → oneOf proposeReplies n ≡ true → oneOf (3 ∷ 4 ∷ []) n ≡ false → Promised proposeReplies state scratch step (after n state (zeroed state scratch) step)
-    turned = fine-refusal proposeCalls proposeFailures state scratch step
+    fine : (t : Bool) {x y : After} → (t ≡ true → Promised (others ++ proposeReplies) state scratch step x) → (t ≡ false → Promised (others ++ proposeReplies) state scratch step y)
+        → Promised (others ++ proposeReplies) state scratch step (cond t x y)
+    fine = fine-cond (others ++ proposeReplies) state scratch step
+
+    turned : scratchOf state ≤ length scratch → (n : ℕ) → oneOf (others ++ proposeReplies) n ≡ true → oneOf (3 ∷ 4 ∷ []) n ≡ false
+        → Promised (others ++ proposeReplies) state scratch step (after n state (zeroed state scratch) step)
+    turned = fine-refusal (others ++ proposeReplies) state scratch step
 
     far : AllHigh proposeFailures
     far = (omega arith, (omega arith, (omega arith, (omega arith, (omega arith, tt)))))
+
+pub propose-promised : (state scratch answers step : List ℕ) → Promised proposeReplies state scratch step (proposeCall state scratch answers step)
+unfolding oneOf
+propose-promised state scratch answers step = propose-after-promised [] state scratch answers step 0 refl refl
 
 -- MESSAGE
 abbrev messageCalls : List ℕ
@@ -123,39 +133,45 @@ pub message-promised : (state scratch answers step : List ℕ) (sender epoch con
 unfolding messageCall oneOf
 message-promised state scratch answers step sender epoch content proposer item =
     fine (not (stateOk state)) (λ _. record { listed = refl; refusal = λ _. (refl, refl); zeros = refl; room = never })
-    (λ _. fine (ltb (length scratch) (length state)) (λ _. record { listed = refl; refusal = λ _. (refl, refl); zeros = refl; room = never })
-    (λ l. let room : length state ≤ length scratch = ltb-false _ _ l in
+    (λ _. fine (ltb (length scratch) (scratchOf state)) (λ _. record { listed = refl; refusal = λ _. (refl, refl); zeros = refl; room = never })
+    (λ l. let room : scratchOf state ≤ length scratch = ltb-false _ _ l in
     fine (not (tableOk (nodes state) answers)) (λ _. turned room 5 refl refl)
     (λ _. fine (leb (nodes state) sender) (λ _. turned room 11 refl refl)
-    (λ _. fine (not (contentOk state scratch answers step sender epoch content proposer item)) (λ _. turned room 7 refl refl)
+    (λ _. fine (not (contentOk (nodes state) content proposer)) (λ _. turned room 7 refl refl)
+    (λ _. fine (not (itemOk content item)) (λ _. turned room 7 refl refl)
     (λ _. fine (ltb lastEpoch (currentEpoch state)) (λ _. turned room 6 refl refl)
-    (λ _. fine-conclude messageCalls messageFailures state scratch step room refl refl refl refl far
-    _ epoch (only-message (oneOf messageFailures) refl refl refl refl sender epoch proposer _ state (tapeOf answers))))))))
+    (λ _. fine-conclude messageReplies state scratch step room refl refl refl refl
+    messageFailures (more-by messageCalls messageFailures) far
+    _ epoch (only-message (oneOf messageFailures) refl refl refl refl sender epoch proposer _ state (tapeOf answers)))))))))
   where
     fine : (t : Bool) {x y : After} → (t ≡ true → Promised messageReplies state scratch step x) → (t ≡ false → Promised messageReplies state scratch step y) → Promised messageReplies state scratch step (cond t x y)
-    fine = fine-cond messageCalls messageFailures state scratch step
+    fine = fine-cond messageReplies state scratch step
 
-    turned : length state ≤ length scratch → (n : ℕ) → oneOf messageReplies n ≡ true → oneOf (3 ∷ 4 ∷ []) n ≡ false → Promised messageReplies state scratch step (after n state (zeroed state scratch) step)
-    turned = fine-refusal messageCalls messageFailures state scratch step
+    turned : scratchOf state ≤ length scratch → (n : ℕ) → oneOf messageReplies n ≡ true → oneOf (3 ∷ 4 ∷ []) n ≡ false → Promised messageReplies state scratch step (after n state (zeroed state scratch) step)
+    turned = fine-refusal messageReplies state scratch step
 
     far : AllHigh messageFailures
     far = (omega arith, (omega arith, (omega arith, (omega arith, tt))))
 
 -- SCRATCH: "the first state-length words of scratch are zero, the rest untouched"
+pub scratch-is : (state : List ℕ) → stateOk state ≡ true → scratchOf state ≡ length state
+unfolding scratchLength
+scratch-is state ok = sym (shaped state ok .long)
+
 module _ (state scratch : List ℕ) where
-  pub zeroed-length : length state ≤ length scratch → length (zeroed state scratch) ≡ length scratch
+  pub zeroed-length : scratchOf state ≤ length scratch → length (zeroed state scratch) ≡ length scratch
   unfolding zeroed
   zeroed-length h = simp (length-append, length-replicate, length-drop) (omega arith)
 
-  pub zeroed-first : (i : ℕ) → i < length state → getD (zeroed state scratch) i 0 ≡ 0
+  pub zeroed-first : (i : ℕ) → i < scratchOf state → getD (zeroed state scratch) i 0 ≡ 0
   unfolding zeroed
   zeroed-first i h =
-      List·getD-append (replicate (length state) 0) (drop (length state) scratch) 0 i (simp length-replicate h)
-      ∙ getD-replicate (length state) i 0 0 h
+      List·getD-append (replicate (scratchOf state) 0) (drop (scratchOf state) scratch) 0 i (simp length-replicate h)
+      ∙ getD-replicate (scratchOf state) i 0 0 h
 
-  pub zeroed-rest : drop (length state) (zeroed state scratch) ≡ drop (length state) scratch
+  pub zeroed-rest : drop (scratchOf state) (zeroed state scratch) ≡ drop (scratchOf state) scratch
   unfolding zeroed
-  zeroed-rest = drop-at (replicate (length state) 0) (drop (length state) scratch) (length state) (length-replicate (length state) 0)
+  zeroed-rest = drop-at (replicate (scratchOf state) 0) (drop (scratchOf state) scratch) (scratchOf state) (length-replicate (scratchOf state) 0)
 
 -- SKIP and CREATE: a refusal leaves the state, and the reply is one of those listed
 pub skip-refusal : (target : ℕ) (w : List ℕ) → isRefusal (skipReply target w) ≡ true → skipState target w ≡ w

@@ -1,107 +1,65 @@
--- What propose and message reply, and every word that they leave, by runs on one epoch's words and a commit. Assumes nothing.
+-- What a call that passed its checks comes to, by runs on one epoch's words and a commit: in reply and in every word. Assumes nothing.
 use Prim.Native.Nat.{ℕ, _+_}
 use mathlib.Core.Path.{_≡_, refl, ap, _∙_}
 use mathlib.Core.List.{List, [], _∷_}
-use mathlib.Core.Bool.{Bool, true, false, cond, not}
+use mathlib.Core.Bool.{Bool, true, false, cond}
 use native.Mathlib.Omega.{arith}
-use lib.ListN.{length, getD, set}
+use lib.ListN.{set}
 use lib.Seq.{set-getD}
-use lib.Dec.{leb, ltb}
-use borrow.Author.Tests.{le-leb, ltb-false, not-false}
+use lib.Dec.{ltb}
+use borrow.Author.Tests.{le-leb}
 use Rattle.steps.specs.Network.{isValidator}
-use Rattle.steps.specs.Table.{tableOk}
-use Rattle.steps.specs.Answers.{tapeOf}
+use Rattle.steps.specs.Answers.{Tape}
 use Rattle.steps.specs.Steps.{fault, faults}
-use Rattle.steps.specs.Runs.{Verdict, going, refused, failed, Run, ends, before, inside}
+use Rattle.steps.specs.Runs.{going, Run, ends, before, inside}
 use Rattle.epoch.specs.declared.MessageContent.{MessageContent}
-use Rattle.engine.specs.State.{nodes, ahead, currentEpoch, faultCount, inputAt, lastEpoch, faultsAt, faultLimit, netOf, withEpoch, stateOk}
-use Rattle.engine.specs.Calls.{After, after, zeroed, countFaults, concludeAs, conclude, proposeCall, contentOk, contentOf, messageCall}
-use Rattle.engine.specs.Work.{Worked, proposeWork, messageWork, committed, settledAs, settled}
+use Rattle.engine.specs.State.{nodes, ahead, currentEpoch, faultCount, inputAt, faultsAt, faultLimit, netOf, stateOk}
+use Rattle.engine.specs.HoneyBadger.{propose, handleMessage}
+use Rattle.engine.specs.Calls.{After, countFaults, conclude}
+use Rattle.engine.specs.Work.{Worked, proposeWork, messageWork, committed, settled}
 use Rattle.engine.proofs.RangesState.{header-ok}
-use Rattle.engine.proofs.Works.{propose-apart, propose-failed, message-apart, message-failed}
+use Rattle.engine.proofs.Works.{propose-apart, message-apart}
 
--- a run that was committed comes to what is settled
-module _ (r : Run Worked (Unit {0})) (e : ℕ) (v : List ℕ) (kept : (error : ℕ) → r .verdict ≡ failed error → committed v e (r .state) ≡ withEpoch v e (r .state .words))
-    (state scratch step : List ℕ) where
-  conclude-settled : conclude (inside (committed v e) r) e state scratch step ≡ settled r e v state scratch step
-  unfolding concludeAs settledAs
-  conclude-settled = go (r .verdict) refl
-    where
-      go : (t : Verdict (Unit {0})) → r .verdict ≡ t → concludeAs t (inside (committed v e) r) e state scratch step ≡ settledAs t r e v state scratch step
-      go refused z = refl
-      go (going x) z = refl
-      go (failed error) z = rw (kept error z)
-
--- checks keep what comes after them apart
-past : (t : Bool) (x y z : After) → (t ≡ false → y ≡ z) → cond t x y ≡ cond t x z
-past true x y z h = refl
-past false x y z h = h refl
-
-module _ (state scratch answers step : List ℕ) where
+-- the runs that `proposeAfter` and `messageCall` conclude
+module _ (state : List ℕ) (ok : stateOk state ≡ true) (p : Tape) (scratch step : List ℕ) where
   -- an observer's propose asks nothing and changes nothing
-  pub propose-settled : proposeCall state scratch answers step
-      ≡ cond (not (stateOk state)) (after 3 state scratch step)
-      (cond (ltb (length scratch) (length state)) (after 4 state scratch step)
-      (cond (not (tableOk (nodes state) answers)) (after 5 state (zeroed state scratch) step)
-      (cond (ltb lastEpoch (currentEpoch state)) (after 6 state (zeroed state scratch) step)
-      (cond (isValidator (netOf state))
-      (settled (proposeWork state (tapeOf answers)) (currentEpoch state) (set state inputAt 1) state (zeroed state scratch) step)
-      (conclude (ends (going tt) state (tapeOf answers)) (currentEpoch state) state (zeroed state scratch) step)))))
-  unfolding proposeCall
+  pub propose-settled : conclude (propose state p) (currentEpoch state) state scratch step
+      ≡ cond (isValidator (netOf state))
+      (settled (proposeWork state p) (currentEpoch state) (set state inputAt 1) state scratch step)
+      (conclude (ends (going tt) state p) (currentEpoch state) state scratch step)
   propose-settled =
-      past (not (stateOk state)) _ _ _ (λ a.
-      past (ltb (length scratch) (length state)) _ _ _ (λ _.
-      past (not (tableOk (nodes state) answers)) _ _ _ (λ _.
-      past (ltb lastEpoch (currentEpoch state)) _ _ _ (λ _.
-      ap (λ r. conclude r (currentEpoch state) state (zeroed state scratch) step) (propose-apart state (not-false _ a) (tapeOf answers))
-      ∙ go (not-false _ a) (isValidator (netOf state))))))
+      ap (λ r. conclude r (currentEpoch state) state scratch step) (propose-apart state ok p) ∙ go (isValidator (netOf state))
     where
-      go : stateOk state ≡ true → (t : Bool)
-          → conclude (cond t (inside (committed (set state inputAt 1) (currentEpoch state)) (proposeWork state (tapeOf answers))) (ends (going tt) state (tapeOf answers))) (currentEpoch state) state (zeroed state scratch) step
-          ≡ cond t (settled (proposeWork state (tapeOf answers)) (currentEpoch state) (set state inputAt 1) state (zeroed state scratch) step)
-          (conclude (ends (going tt) state (tapeOf answers)) (currentEpoch state) state (zeroed state scratch) step)
-      go ok true = conclude-settled (proposeWork state (tapeOf answers)) (currentEpoch state) (set state inputAt 1) (propose-failed state ok (tapeOf answers)) state (zeroed state scratch) step
-      go ok false = refl
+      r : Run (List ℕ) (Unit {0})
+      r = inside (committed (set state inputAt 1) (currentEpoch state)) (proposeWork state p)
 
-  module _ (sender epoch content proposer item : ℕ) where
-    -- beyond the look-ahead and late messages run no epoch
-    pub message-settled : messageCall state scratch answers step sender epoch content proposer item
-        ≡ cond (not (stateOk state)) (after 3 state scratch step)
-        (cond (ltb (length scratch) (length state)) (after 4 state scratch step)
-        (cond (not (tableOk (nodes state) answers)) (after 5 state (zeroed state scratch) step)
-        (cond (leb (nodes state) sender) (after 11 state (zeroed state scratch) step)
-        (cond (not (contentOk state scratch answers step sender epoch content proposer item)) (after 7 state (zeroed state scratch) step)
-        (cond (ltb lastEpoch (currentEpoch state)) (after 6 state (zeroed state scratch) step)
-        (cond (ltb (currentEpoch state + ahead state) epoch)
-        (conclude (before (fault 1 sender 0 ∷ []) (ends (going tt) state (tapeOf answers))) epoch state (zeroed state scratch) step)
-        (cond (ltb epoch (currentEpoch state))
-        (conclude (ends (going tt) state (tapeOf answers)) epoch state (zeroed state scratch) step)
-        (settled (messageWork sender epoch proposer (contentOf state scratch answers step sender epoch content proposer item) state (tapeOf answers)) epoch state state (zeroed state scratch) step))))))))
-    unfolding messageCall
-    message-settled =
-        past (not (stateOk state)) _ _ _ (λ a.
-        past (ltb (length scratch) (length state)) _ _ _ (λ _.
-        past (not (tableOk (nodes state) answers)) _ _ _ (λ _.
-        past (leb (nodes state) sender) _ _ _ (λ _.
-        past (not (contentOk state scratch answers step sender epoch content proposer item)) _ _ _ (λ _.
-        past (ltb lastEpoch (currentEpoch state)) _ _ _ (λ _.
-        ap (λ r. conclude r epoch state (zeroed state scratch) step) (message-apart state (not-false _ a) (tapeOf answers) sender epoch proposer (contentOf state scratch answers step sender epoch content proposer item))
-        ∙ go (not-false _ a) (ltb (currentEpoch state + ahead state) epoch) refl (ltb epoch (currentEpoch state)) refl))))))
-      where
-        what : MessageContent
-        what = contentOf state scratch answers step sender epoch content proposer item
+      go : (t : Bool) → conclude (cond t r (ends (going tt) state p)) (currentEpoch state) state scratch step
+          ≡ cond t (conclude r (currentEpoch state) state scratch step) (conclude (ends (going tt) state p) (currentEpoch state) state scratch step)
+      go true = refl
+      go false = refl
 
-        r : Run Worked (Unit {0})
-        r = messageWork sender epoch proposer what state (tapeOf answers)
+  -- beyond the look-ahead and late messages run no epoch
+  pub message-settled : (sender epoch proposer : ℕ) (content : MessageContent) → conclude (handleMessage sender epoch proposer content state p) epoch state scratch step
+      ≡ cond (ltb (currentEpoch state + ahead state) epoch)
+      (conclude (before (fault 1 sender 0 ∷ []) (ends (going tt) state p)) epoch state scratch step)
+      (cond (ltb epoch (currentEpoch state))
+      (conclude (ends (going tt) state p) epoch state scratch step)
+      (settled (messageWork sender epoch proposer content state p) epoch state state scratch step))
+  message-settled sender epoch proposer content =
+      ap (λ r. conclude r epoch state scratch step) (message-apart state ok p sender epoch proposer content)
+      ∙ go (ltb (currentEpoch state + ahead state) epoch) (ltb epoch (currentEpoch state))
+    where
+      far : Run (List ℕ) (Unit {0})
+      far = before (fault 1 sender 0 ∷ []) (ends (going tt) state p)
 
-        go : stateOk state ≡ true → (s : Bool) → ltb (currentEpoch state + ahead state) epoch ≡ s → (t : Bool) → ltb epoch (currentEpoch state) ≡ t
-            → conclude (cond s (before (fault 1 sender 0 ∷ []) (ends (going tt) state (tapeOf answers))) (cond t (ends (going tt) state (tapeOf answers)) (inside (committed state epoch) r))) epoch state (zeroed state scratch) step
-            ≡ cond s (conclude (before (fault 1 sender 0 ∷ []) (ends (going tt) state (tapeOf answers))) epoch state (zeroed state scratch) step)
-            (cond t (conclude (ends (going tt) state (tapeOf answers)) epoch state (zeroed state scratch) step) (settled r epoch state state (zeroed state scratch) step))
-        go ok true a t b = refl
-        go ok false a true b = refl
-        go ok false a false b =
-            conclude-settled r epoch state (message-failed state ok (tapeOf answers) sender epoch proposer what (ltb-false _ _ b) (ltb-false _ _ a)) state (zeroed state scratch) step
+      r : Run (List ℕ) (Unit {0})
+      r = inside (committed state epoch) (messageWork sender epoch proposer content state p)
+
+      go : (s t : Bool) → conclude (cond s far (cond t (ends (going tt) state p) r)) epoch state scratch step
+          ≡ cond s (conclude far epoch state scratch step) (cond t (conclude (ends (going tt) state p) epoch state scratch step) (conclude r epoch state scratch step))
+      go true t = refl
+      go false true = refl
+      go false false = refl
 
 -- a step without faults leaves the count: an observer's propose and a late message change no word
 pub count-none : (w : List ℕ) → stateOk w ≡ true → countFaults w [] ≡ w

@@ -7,10 +7,10 @@ use lib.Dec.{eqb, leb, ltb}
 use Rattle.steps.specs.Table.{handle, within, tableOk}
 use Rattle.steps.specs.Answers.{Rec, Tape, tapeOf}
 use Rattle.steps.specs.Steps.{Entry, faults, written, writtenFailed}
-use Rattle.steps.specs.Runs.{Verdict, going, refused, failed, Run}
+use Rattle.steps.specs.Runs.{Verdict, going, refused, failed, numberOf, Run}
 use Rattle.epoch.specs.declared.MessageContent.{MessageContent}
 use Rattle.epoch.specs.declared.MessageContent.the-variants.{Broadcast, Agreement, DecryptionShare}
-use Rattle.engine.specs.State.{nodes, currentEpoch, faultCount, lastEpoch, faultsAt, faultLimit, stateOk}
+use Rattle.engine.specs.State.{nodes, currentEpoch, faultCount, scratchOf, lastEpoch, faultsAt, faultLimit, stateOk}
 use Rattle.engine.specs.HoneyBadger.{propose, handleMessage, skipToEpoch, hasInput, receivedProposals}
 
 -- a call's reply, and the lent words afterwards
@@ -25,7 +25,7 @@ after reply state scratch step = record { reply = reply; state = state; scratch 
 
 -- "the first state-length words of scratch are zero, the rest untouched"
 unfoldable pub zeroed : List ℕ → List ℕ → List ℕ
-zeroed state scratch = replicate (length state) 0 ++ drop (length state) scratch
+zeroed state scratch = replicate (scratchOf state) 0 ++ drop (scratchOf state) scratch
 
 -- "the fault count, all faults in successful steps since creation, stopping at 2^32−1"
 unfoldable pub countFaults : List ℕ → List Entry → List ℕ
@@ -38,56 +38,62 @@ unfoldable pub isEnd : List Rec → Bool
 isEnd [] = true
 isEnd (r ∷ rs) = false
 
--- what a run comes to: 8, 9 and 10 leave the state and the step table untouched, a failure loses the step
+-- what a run comes to: 8, 9 and 10, in this order, leave the state and the step table untouched; a failure loses the step
 unfoldable pub concludeAs : Verdict (Unit {0}) → Run (List ℕ) (Unit {0}) → ℕ → List ℕ → List ℕ → List ℕ → After
-concludeAs refused r epoch state scratch step = after 8 state scratch step
-concludeAs (going _) r epoch state scratch step =
+concludeAs refused r epoch state scratch step = after (numberOf {A = Unit {0}} refused) state scratch step
+concludeAs (going a) r epoch state scratch step =
     -- "9: answers remain unread"
-    cond (isEnd (r .tape .rest))
+    cond (not (isEnd (r .tape .rest))) (after 9 state scratch step)
     -- "10: the step table has fewer whole records than the step"
-    (cond (leb (1 + length (r .log)) (length step / 4))
-    (after 0 (countFaults (r .state) (r .log)) scratch (written step (r .log) epoch))
-    (after 10 state scratch step))
-    (after 9 state scratch step)
+    (cond (ltb (length step / 4) (1 + length (r .log))) (after 10 state scratch step)
+    (after (numberOf (going a)) (countFaults (r .state) (r .log)) scratch (written step (r .log) epoch)))
 concludeAs (failed error) r epoch state scratch step =
-    cond (isEnd (r .tape .rest))
+    cond (not (isEnd (r .tape .rest))) (after 9 state scratch step)
     -- "and 10 if no header fits"
-    (cond (leb 1 (length step / 4))
-    (after error (r .state) scratch (writtenFailed step epoch))
-    (after 10 state scratch step))
-    (after 9 state scratch step)
+    (cond (ltb (length step / 4) 1) (after 10 state scratch step)
+    (after (numberOf {A = Unit {0}} (failed error)) (r .state) scratch (writtenFailed step epoch)))
 
 abbrev pub conclude : Run (List ℕ) (Unit {0}) → ℕ → List ℕ → List ℕ → List ℕ → After
 conclude r epoch state scratch step = concludeAs (r .verdict) r epoch state scratch step
 
+-- "7: content not 1 broadcast, 2 agreement, 3 share; proposer ≥ N;"
+unfoldable pub contentOk : ℕ → ℕ → ℕ → Bool
+contentOk n content proposer = within 1 3 content && ltb proposer n
+
+-- "item not 0 for contents 1 and 2, or not a handle for 3"
+unfoldable pub itemOk : ℕ → ℕ → Bool
+itemOk content item = cond (eqb content 3) (handle item) (eqb item 0)
+
+unfoldable pub contentOf : ℕ → ℕ → MessageContent
+contentOf content item = cond (eqb content 1) Broadcast (cond (eqb content 2) Agreement (DecryptionShare item))
+
 module _ (state scratch answers step : List ℕ) where
-  -- propose: checks 3, 4, 5, 6, then the run
-  unfoldable pub proposeCall : After
-  proposeCall =
+  -- propose with one more check: 3, 4, 5, 6, then the reply g where it is not 0, then the run
+  unfoldable pub proposeAfter : ℕ → After
+  proposeAfter g =
       cond (not (stateOk state)) (after 3 state scratch step)
-      (cond (ltb (length scratch) (length state)) (after 4 state scratch step)
+      (cond (ltb (length scratch) (scratchOf state)) (after 4 state scratch step)
       (cond (not (tableOk (nodes state) answers)) (after 5 state (zeroed state scratch) step)
       (cond (ltb lastEpoch (currentEpoch state)) (after 6 state (zeroed state scratch) step)
-      (conclude (propose state (tapeOf answers)) (currentEpoch state) state (zeroed state scratch) step))))
+      (cond (not (eqb g 0)) (after g state (zeroed state scratch) step)
+      (conclude (propose state (tapeOf answers)) (currentEpoch state) state (zeroed state scratch) step)))))
+
+  -- propose: checks 3, 4, 5, 6, then the run
+  abbrev pub proposeCall : After
+  proposeCall = proposeAfter 0
 
   module _ (sender epoch content proposer item : ℕ) where
-    -- "7: content not 1 broadcast, 2 agreement, 3 share; proposer ≥ N; item not 0 for contents 1 and 2, or not a handle for 3"
-    unfoldable pub contentOk : Bool
-    contentOk = within 1 3 content && ltb proposer (nodes state) && cond (eqb content 3) (handle item) (eqb item 0)
-
-    unfoldable pub contentOf : MessageContent
-    contentOf = cond (eqb content 1) Broadcast (cond (eqb content 2) Agreement (DecryptionShare item))
-
     -- message: checks 3, 4, 5, 11, 7, 6, then the run
     unfoldable pub messageCall : After
     messageCall =
         cond (not (stateOk state)) (after 3 state scratch step)
-        (cond (ltb (length scratch) (length state)) (after 4 state scratch step)
+        (cond (ltb (length scratch) (scratchOf state)) (after 4 state scratch step)
         (cond (not (tableOk (nodes state) answers)) (after 5 state (zeroed state scratch) step)
         (cond (leb (nodes state) sender) (after 11 state (zeroed state scratch) step)
-        (cond (not contentOk) (after 7 state (zeroed state scratch) step)
+        (cond (not (contentOk (nodes state) content proposer)) (after 7 state (zeroed state scratch) step)
+        (cond (not (itemOk content item)) (after 7 state (zeroed state scratch) step)
         (cond (ltb lastEpoch (currentEpoch state)) (after 6 state (zeroed state scratch) step)
-        (conclude (handleMessage sender epoch proposer contentOf state (tapeOf answers)) epoch state (zeroed state scratch) step))))))
+        (conclude (handleMessage sender epoch proposer (contentOf content item) state (tapeOf answers)) epoch state (zeroed state scratch) step)))))))
 
 -- skip: its reply, and the state afterwards. "12: target above 2^62. No step."
 unfoldable pub skipReply : ℕ → List ℕ → ℕ

@@ -8,7 +8,7 @@ use lib.ListN.{length, getD, replicate}
 use lib.Dec.{eqb}
 use Rattle.steps.specs.Table.{within}
 use Rattle.subset.specs.Words.{epochLength}
-use Rattle.engine.specs.State.{headerLength, nodes, ahead, currentEpoch, input, epochAt, inputAt, epochWords}
+use Rattle.engine.specs.State.{headerLength, nodes, ahead, currentEpoch, input, scratchOf, epochAt, inputAt, epochWords}
 use Rattle.engine.specs.Calls.{After, zeroed}
 
 -- "1 to 12 turn a call down"
@@ -42,7 +42,7 @@ pub record Promised (replies state scratch step : List ℕ) (r : After) : Type 0
   -- "After any propose or message that passes 4, the first state-length words of scratch are zero, the rest untouched; before that all of it
   -- is untouched."
   pub zeros : r .scratch ≡ cond (oneOf (3 ∷ 4 ∷ []) (r .reply)) scratch (zeroed state scratch)
-  pub room : oneOf (3 ∷ 4 ∷ []) (r .reply) ≡ false → length state ≤ length scratch
+  pub room : oneOf (3 ∷ 4 ∷ []) (r .reply) ≡ false → scratchOf state ≤ length scratch
 
 -- of a skip from state w to an epoch above the current one, which leaves v
 pub record Skipped (target : ℕ) (w v : List ℕ) : Type 0 where

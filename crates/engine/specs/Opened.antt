@@ -13,15 +13,14 @@ unfoldable pub opened : Unit {0}
 unfolding EpochOpened.opened
     Schedule.scheduleOf Schedule.useOnEpoch Schedule.scheduleOk Schedule.usedFirst Schedule.usedSecond
     State.netOf State.strategyOf State.encryptedIn State.placeOf State.epochWords State.withEpoch State.withoutEpoch
-    State.epochsAt State.allHold State.headerTests State.epochsInRange State.stateOk
+    State.epochsAt State.scratchLength State.allHold State.headerTests State.epochsInRange State.stateOk
     HoneyBadger.updateEpoch HoneyBadger.epochStateMut HoneyBadger.inEpoch HoneyBadger.tryOutputBatches
     HoneyBadger.propose HoneyBadger.handleMessage HoneyBadger.clearBelow HoneyBadger.skipToEpoch HoneyBadger.hasInput
     HoneyBadger.receivedProposals
-    Calls.zeroed Calls.countFaults Calls.isEnd Calls.concludeAs Calls.proposeCall Calls.contentOk Calls.contentOf
-    Calls.messageCall Calls.skipReply Calls.skipState Calls.queryReply Calls.currentEpochResult Calls.hasInputResult
-    Calls.receivedProposalsResult Calls.faultCountResult
+    Calls.zeroed Calls.countFaults Calls.isEnd Calls.concludeAs Calls.proposeAfter Calls.contentOk Calls.itemOk
+    Calls.contentOf Calls.messageCall Calls.skipReply Calls.skipState Calls.queryReply Calls.currentEpochResult
+    Calls.hasInputResult Calls.receivedProposalsResult Calls.faultCountResult
     Work.built Work.epochCall Work.batchesFrom Work.beside Work.workIn Work.proposeWork Work.messageWork Work.committed
-    Work.settledAs
     Create.numberTests Create.created Create.createReply Create.createState
     History.turnOf History.stateAfter History.turns History.noneFails History.eventsOf History.currentAfter
     History.history History.taken History.decrypted History.plaintext History.namesFrom History.countOpen

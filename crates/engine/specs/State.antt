@@ -67,6 +67,10 @@ epochsAt n = headerLength
 abbrev pub stateLength : ℕ → ℕ → ℕ
 stateLength n ahead = epochsAt n + (ahead + 1) * epochLength n
 
+-- "4: scratch shorter than state": how many words of scratch a call wants. No law knows the number but `scratch-is` of proofs/Refusals.antt
+unfoldable pub scratchLength : ℕ → ℕ → ℕ
+scratchLength n ahead = stateLength n ahead
+
 -- the last epoch in which a call may run, 2^62
 abbrev pub lastEpoch : ℕ
 lastEpoch = 4611686018427387904
@@ -120,6 +124,9 @@ module _ (w : List ℕ) where
 
   abbrev pub faultCount : ℕ
   faultCount = getD w faultsAt 0
+
+  abbrev pub scratchOf : ℕ
+  scratchOf = scratchLength nodes ahead
 
   unfoldable pub netOf : NetworkInfo
   netOf =

@@ -1,20 +1,18 @@
 -- A call as the code does it: the run reads the state and works on the words of one epoch apart from it, and a commit writes afterwards.
 -- Nobody has to believe these: `proofs/Works.antt` proves that they are the runs and calls of `HoneyBadger.antt` and `Calls.antt`.
-use Prim.Native.Nat.{ℕ, zero, suc, _+_, _/_}
+use Prim.Native.Nat.{ℕ, zero, suc, _+_}
 use mathlib.Core.List.{List}
 use mathlib.Core.Bool.{true, false, cond}
-use lib.ListN.{length}
-use lib.Dec.{eqb, leb}
+use lib.Dec.{eqb}
 use Rattle.steps.specs.Answers.{Tape, ask}
-use Rattle.steps.specs.Steps.{written, writtenFailed}
-use Rattle.steps.specs.Runs.{Verdict, going, refused, failed, Run, ends, onward, heard, inside}
+use Rattle.steps.specs.Runs.{going, failed, Run, ends, onward, heard, inside}
 use Rattle.epoch.specs.declared.MessageContent.{MessageContent}
 use Rattle.epoch.specs.Words.{isVacant}
 use Rattle.epoch.specs.Epoch.{newEpoch, propose as proposeInEpoch, handleMessageContent}
 use Rattle.epoch.specs.Batch.{isReady, outputBatch}
 use Rattle.engine.specs.State.{nodes, ahead, currentEpoch, netOf, strategyOf, encryptedIn, epochWords, withEpoch}
 use Rattle.engine.specs.HoneyBadger.{skipToEpoch}
-use Rattle.engine.specs.Calls.{After, after, countFaults, isEnd}
+use Rattle.engine.specs.Calls.{After, conclude}
 
 -- ONE EPOCH: its instances are built where there are none (20 `CreateSubset`), then its own call runs
 unfoldable pub built : ℕ → List ℕ → Tape → Run (List ℕ) (Unit {0})
@@ -65,22 +63,7 @@ messageWork sender epoch proposer content w p =
 unfoldable pub committed : List ℕ → ℕ → Worked → List ℕ
 committed w e s = skipToEpoch (s .next) (withEpoch w e (s .words))
 
--- WHAT A CALL COMES TO after a run in epoch e: 8, 9 and 10 write neither the state nor the step table; a failed run had no batch, and its
--- epoch's words are kept. `v` is the state that the commit writes on: `state`, or `state` with has input set
-unfoldable pub settledAs : Verdict (Unit {0}) → Run Worked (Unit {0}) → ℕ → List ℕ → List ℕ → List ℕ → List ℕ → After
-settledAs refused r e v state scratch step = after 8 state scratch step
-settledAs (going _) r e v state scratch step =
-    cond (isEnd (r .tape .rest))
-    (cond (leb (1 + length (r .log)) (length step / 4))
-    (after 0 (countFaults (committed v e (r .state)) (r .log)) scratch (written step (r .log) e))
-    (after 10 state scratch step))
-    (after 9 state scratch step)
-settledAs (failed error) r e v state scratch step =
-    cond (isEnd (r .tape .rest))
-    (cond (leb 1 (length step / 4))
-    (after error (withEpoch v e (r .state .words)) scratch (writtenFailed step e))
-    (after 10 state scratch step))
-    (after 9 state scratch step)
-
+-- WHAT A CALL COMES TO after a run in epoch e. `v` is the state that the commit writes on: `state`, or `state` with has input set. After a
+-- failed run nothing is skipped, and the commit writes the epoch's words alone (`propose-failed`, `message-failed` in proofs/Works.antt)
 abbrev pub settled : Run Worked (Unit {0}) → ℕ → List ℕ → List ℕ → List ℕ → List ℕ → After
-settled r e v state scratch step = settledAs (r .verdict) r e v state scratch step
+settled r e v state scratch step = conclude (inside (committed v e) r) e state scratch step
