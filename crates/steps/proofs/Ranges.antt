@@ -11,6 +11,7 @@ use lib.Dec.{eqb, leb, ltb}
 use borrow.Author.Tests.{eqb-true, eqb-false, leb-true, ltb-true, ltb-false}
 use Rattle.steps.specs.declared.reader.Answer.{Answer}
 use Rattle.steps.specs.declared.reader.Answer.the-variants.{Got, Refused}
+use Rattle.steps.specs.declared.reader.Content.{Content}
 use Rattle.steps.specs.declared.reader.Output.{Output}
 use Rattle.steps.specs.declared.reader.Output.the-variants.{Missing, Value}
 use Rattle.steps.specs.Table.{within, handle, recordOk, word, mayFollow, chainOk, shapeOk, tableOk}
@@ -203,7 +204,7 @@ last-small o r h l = go (eqb (r .kind) 18) refl
     go true e = h (λ z. omega (arith, eqb-true (r .kind) 18 e))
     go false e = l
 
-module _ (content proposer : ℕ) where
+module _ (content : Content) (proposer : ℕ) where
   parts-small : (o : Output) (i : ℕ) (l : List Rec) → AllSmall l → SmallOutput o
       → AllSmall (partsFrom content proposer o i l .tape .rest) × SmallOutput (partsFrom content proposer o i l .output)
   unfolding partsFrom AllSmall
