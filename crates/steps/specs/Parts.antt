@@ -32,7 +32,7 @@ partEntries content proposer kind a b =
     cond (eqb kind messagePart) (message (messageKind content) proposer b ∷ [])
     (cond (eqb kind faultPart) (fault (faultKind content) a b ∷ []) [])
 
--- the output of one part
+-- the output of one part: the b of an 18
 unfoldable pub outputOf : ℕ → ℕ → Output
 outputOf kind b = cond (eqb kind outputPart) (Value b) Missing
 
