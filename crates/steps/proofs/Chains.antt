@@ -9,6 +9,7 @@ use native.Mathlib.Omega.{arith}
 use lib.ListN.{length, getD}
 use lib.Dec.{eqb, leb, ltb}
 use borrow.Author.Tests.{eqb-true, eqb-false, eq-eqb, leb-true, ltb-true, lt-leb}
+use Rattle.steps.specs.declared.reader.Content.{Content}
 use Rattle.steps.specs.declared.reader.Output.{Output}
 use Rattle.steps.specs.declared.reader.Output.the-variants.{Missing, Value}
 use Rattle.steps.specs.Answers.{Rec, tape, link, recAt, chain, tapeOf}
@@ -105,7 +106,7 @@ last-output output kind b = go (eqb kind 18)
     go true = refl
     go false = refl
 
-module _ (content proposer : ℕ) where
+module _ (content : Content) (proposer : ℕ) where
   pub parts-output : (output : Output) (i : ℕ) (rs : List Rec) → optionOf (partsFrom content proposer output i rs .output) ≡ orElse (lastOutputIn rs) (optionOf output)
   unfolding partsFrom lastOutputIn orElse
   parts-output output i [] = refl

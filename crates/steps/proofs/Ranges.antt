@@ -11,10 +11,11 @@ use lib.Dec.{eqb, leb, ltb}
 use borrow.Author.Tests.{eqb-true, eqb-false, leb-true, ltb-true, ltb-false}
 use Rattle.steps.specs.declared.reader.Answer.{Answer}
 use Rattle.steps.specs.declared.reader.Answer.the-variants.{Got, Refused}
+use Rattle.steps.specs.declared.reader.Content.{Content}
 use Rattle.steps.specs.declared.reader.Output.{Output}
 use Rattle.steps.specs.declared.reader.Output.the-variants.{Missing, Value}
 use Rattle.steps.specs.Table.{within, handle, recordOk, word, mayFollow, chainOk, shapeOk, tableOk}
-use Rattle.steps.specs.Answers.{Rec, Tape, tape, link, recAt, chain, tapeOf, Asked, askFor, ask, askAbout}
+use Rattle.steps.specs.Answers.{Rec, Tape, tape, link, recAt, chain, tapeOf, Asked, asked, askFor, ask, askAbout}
 use Rattle.steps.specs.Steps.{Entry}
 use Rattle.steps.specs.Runs.{Verdict, going, refused, failed, Run, ends, onwardAs, onward, heardAs, heard, inside}
 use Rattle.steps.specs.Parts.{isPart, outputOf, lastOf, lastOutput, partsFrom, readParts}
@@ -149,7 +150,7 @@ unfolding askFor AllSmall
 for-heard want not p [] o h = record { tape = o; small = λ a b e. let z : _≡_ {A = ℕ} 0 1 = cc in absurd (omega arith) }
 for-heard want not p (r ∷ rs) o h = go (want r) refl
   where
-    go : (x : Bool) → want r ≡ x → Heard (cond x (record { answer = Got (r .a) (r .b); tape = tape (r .next) rs }) (record { answer = Refused; tape = p }))
+    go : (x : Bool) → want r ≡ x → Heard (cond x (asked (Got (r .a) (r .b)) (tape (r .next) rs)) (asked Refused p))
     go true e = record { tape = h .1; small = λ a b g. let z : r .b ≡ b = cc in rw z at (h .0 (not r e)) }
     go false e = record { tape = o; small = λ a b e. let z : _≡_ {A = ℕ} 0 1 = cc in absurd (omega arith) }
 
@@ -203,7 +204,7 @@ last-small o r h l = go (eqb (r .kind) 18) refl
     go true e = h (λ z. omega (arith, eqb-true (r .kind) 18 e))
     go false e = l
 
-module _ (content proposer : ℕ) where
+module _ (content : Content) (proposer : ℕ) where
   parts-small : (o : Output) (i : ℕ) (l : List Rec) → AllSmall l → SmallOutput o
       → AllSmall (partsFrom content proposer o i l .tape .rest) × SmallOutput (partsFrom content proposer o i l .output)
   unfolding partsFrom AllSmall

@@ -1,6 +1,7 @@
 pub mod Numbers
 pub mod Network
 pub mod Table
+pub mod Verdicts
 pub mod Answers
 pub mod Steps
 pub mod Runs

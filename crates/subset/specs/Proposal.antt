@@ -3,6 +3,8 @@ use Prim.Native.Nat.{ℕ, zero, suc}
 use mathlib.Core.Bool.{Bool, true, false, cond, _||_}
 use mathlib.Core.Option.{Option, none, some}
 use lib.Dec.{eqb}
+use Rattle.steps.specs.declared.reader.Content.{Content}
+use Rattle.steps.specs.declared.reader.Content.the-variants.{Broadcast, Agreement}
 use Rattle.steps.specs.declared.reader.Output.{Output}
 use Rattle.steps.specs.declared.reader.Output.the-variants.{Missing, Value}
 use Rattle.steps.specs.Answers.{Tape, askAbout}
@@ -68,7 +70,7 @@ movedTo m tape = ends (going (m .value)) (m .state) tape
 
 module _ (error p : ℕ) where
   -- `convert_bc` and `convert_ba`: an instance's answer of this kind about proposer p, and its last output
-  unfoldable pub instanceAnswer : ℕ → ℕ → ProposalState → Tape → Run ProposalState Output
+  unfoldable pub instanceAnswer : ℕ → Content → ProposalState → Tape → Run ProposalState Output
   instanceAnswer kind content s tape =
       heard (askAbout tape kind p) s (λ a b tape.
       cond (eqb a 0) (ends (failed error) s tape) (readParts content p s tape))
@@ -76,7 +78,7 @@ module _ (error p : ℕ) where
   -- an agreement message (kind 5), propose(true) (6) or propose(false) (7), of a proposal that asks its agreement
   unfoldable pub handleAgreement : ℕ → ProposalState → Tape → Run ProposalState (Option ℕ)
   handleAgreement kind s tape =
-      onward (instanceAnswer kind 2 s tape) (λ out s tape. movedTo (afterAgreement s out) tape)
+      onward (instanceAnswer kind Agreement s tape) (λ out s tape. movedTo (afterAgreement s out) tape)
 
   -- the value has come while the agreement is undecided: a vote 1 for it. "If propose(true) fails after a value, the proposal keeps HasValue."
   unfoldable pub voteTrue : Moved → Tape → Run ProposalState (Option ℕ)
@@ -89,4 +91,4 @@ module _ (error p : ℕ) where
   -- `Broadcast::broadcast` (kind 3) or `Broadcast::handle_message` (4), of a proposal that asks its broadcast
   unfoldable pub handleBroadcast : ℕ → ProposalState → Tape → Run ProposalState (Option ℕ)
   handleBroadcast kind s tape =
-      onward (instanceAnswer kind 1 s tape) (λ out s tape. afterValue s out tape)
+      onward (instanceAnswer kind Broadcast s tape) (λ out s tape. afterValue s out tape)

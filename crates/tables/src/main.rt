@@ -7,6 +7,7 @@ use decryption::ThresholdDecrypt;
 use libc::STDOUT_FILENO;
 use steps::network_info::NetworkInfo;
 use steps::reader::Answer;
+use steps::reader::Content;
 use steps::reader::Output;
 use steps::step::Step;
 
@@ -73,14 +74,12 @@ fn first(answers: &[u64]) -> usize {
     answers[0] as usize
 }
 
-// Kinds 3 and 4 are a broadcast's (content 1), 5 to 7 an agreement's (2).
-fn content_of(kind: u64) -> u64
-    ensures { λ r. ⌜ r ≤ 2 ⌝ }
-{
+// Kinds 3 and 4 are a broadcast's, 5 to 7 an agreement's.
+fn content_of(kind: u64) -> Content {
     if kind <= 4 {
-        return 1;
+        return Content::Broadcast;
     }
-    2
+    Content::Agreement
 }
 
 // An answer of this kind about this node, with its parts.
