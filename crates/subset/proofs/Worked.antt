@@ -1,8 +1,8 @@
--- One run of four nodes, computed: the premises of `subset-rule` hold of it, and those of a vote 1 and of a vote 0. Assumes nothing.
+-- One run of four nodes, computed: the premises of `subset-rule` hold of it, and it has a vote 1 and a vote 0. Assumes nothing.
 use Prim.Native.Nat.{ℕ}
 use mathlib.Core.Path.{_≡_, refl}
 use mathlib.Core.List.{List, [], _∷_, _++_}
-use mathlib.Core.Bool.{true}
+use mathlib.Core.Bool.{true, false}
 use mathlib.Core.Option.{Option, none, some}
 use native.Mathlib.Omega.{arith}
 use lib.ListN.{getD}
@@ -12,7 +12,7 @@ use Rattle.steps.specs.Answers.{link, recAt, onRecord, walk, chain, askFor, ask
 use Rattle.steps.specs.Table.{recordOk, contextAfter, mayFollow, chainOk, shapeOk, tableOk}
 use Rattle.steps.specs.Runs.{onwardAs, onward, heardAs, heard}
 use Rattle.steps.specs.Parts.{isPart, partEntries, outputOf, lastOf, lastOutput, partsFrom}
-use Rattle.steps.specs.Taken.{orElse, isTrue, lastOutputIn, firstTaken, ofValue, ofDecision, onesFrom}
+use Rattle.steps.specs.Taken.{orElse, isTrue, lastOutputIn, firstTaken, ofValue, ofDecision, asked, onesFrom}
 use Rattle.subset.specs.Words.{decidedAt, proposalOf, tagOf, valueOf, loadProposal, storeProposal, addContribution}
 use Rattle.subset.specs.Proposal.{accepted, complete, afterAgreement, afterBroadcast, asksAgreement, asksBroadcast, instanceAnswer, handleAgreement, voteTrue, afterValue, handleBroadcast}
 use Rattle.subset.specs.Subset.{countFrom, completeFrom, contributed, atProposal, broadcastAt, agreementAt, voteFrom, votes, tryOutput, propose, handleMessage}
@@ -57,8 +57,9 @@ pub four-tables : tablesOk 4 (earlier ++ (third ∷ [])) ≡ true
 unfolding recordOk contextAfter mayFollow chainOk shapeOk tableOk tablesOk
 four-tables = refl
 
--- the premises of the vote 1 for proposer 2 and of the vote 0 for proposer 3
-pub four-votes : (takenBy ofValue earlier 2 ≡ none) × (firstTaken ofValue 2 (answers third) ≡ some 9) × (takenBy ofDecision earlier 2 ≡ none)
-    × (onesFrom (takenBy ofDecision earlier) 4 0 ≡ 2) × (onesFrom (decidedBefore7 earlier third) 4 0 ≡ 3) × (decidedBefore7 earlier third 3 ≡ none)
-unfolding link recAt onRecord walk chain isPart orElse isTrue lastOutputIn firstTaken onesFrom takenBy
-four-votes = (refl, refl, refl, refl, refl, refl)
+-- vote 1 for proposer 2 and vote 0 for proposer 3 are asked for, and the rule's tests of them
+pub four-votes : (asked 6 2 (answers third) ≡ true) × (firstTaken ofValue 2 (answers third) ≡ some 9) × (takenBy ofDecision earlier 2 ≡ none)
+    × (asked 7 3 (answers third) ≡ true) × (onesFrom (decidedBefore7 earlier third) 4 0 ≡ 3) × (decidedBefore7 earlier third 3 ≡ none)
+    × (asked 7 2 (answers third) ≡ false) × (decidedBefore7 earlier third 2 ≡ some 1)
+unfolding link recAt onRecord walk chain isPart orElse isTrue lastOutputIn firstTaken asked onesFrom takenBy
+four-votes = (refl, refl, refl, refl, refl, refl, refl, refl)
