@@ -20,3 +20,4 @@ pub mod TwoRuns
 pub mod Agreement
 pub mod Rule
 pub mod Pair
+pub mod Worked
