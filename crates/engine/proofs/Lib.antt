@@ -30,5 +30,6 @@ pub mod Eights
 pub mod Rule
 pub mod Tests
 pub mod Pair
+pub mod Worked
 pub mod SecondPair
 pub mod Bounded

@@ -4,14 +4,15 @@ use native.Mathlib.Nat.{add-zero}
 use native.Mathlib.Omega.{arith}
 use mathlib.Core.Path.{_≡_, refl, sym, ap, _∙_}
 use mathlib.Core.List.{List, [], _∷_, _++_, append-assoc}
-use mathlib.Core.Bool.{Bool, true, false, cond, false≢true}
+use mathlib.Core.Bool.{Bool, true, false, cond, _&&_, not, false≢true}
 use mathlib.Core.Option.{Option, none}
-use lib.Dec.{eqb, ltb}
+use lib.Dec.{eqb, leb, ltb}
 use lib.ListN.{length, getD, set, length-set, length-replicate}
-use borrow.Author.Tests.{eqb-true, eq-eqb, ltb-false}
+use borrow.Author.Tests.{eqb-true, eq-eqb, ltb-true, ltb-false, le-leb, lt-leb}
 use Rattle.steps.specs.declared.network_info.NetworkInfo.{NetworkInfo}
 use Rattle.steps.specs.Network.{Network, isValidator}
 use Rattle.steps.specs.Answers.{Rec, Tape, tape}
+use Rattle.steps.specs.Table.{within}
 use Rattle.steps.specs.Steps.{Entry, fault, item, faults, outputs}
 use Rattle.steps.specs.Runs.{Verdict, going, refused, failed, Run, ends, onward, inside}
 use Rattle.steps.specs.Taken.{orElse, isThere, isTrue, firstTaken, ofValue, ofDecision, firstDecrypted, thirteensIn}
@@ -20,7 +21,7 @@ use Rattle.steps.proofs.Chains.{Good}
 use Rattle.steps.proofs.Read13.{GivesAs, Gives, gives-map, gives-cond, gives-ask, gives-onward, gives-inside, Neither, neither, neither-then, neither-1, thirteens-1, good-tail, outputs-append, faults-append}
 use Rattle.subset.specs.Words.{recordLength, epochLength, statusAt}
 use Rattle.subset.proofs.After.{AfterAs, After}
-use Rattle.subset.proofs.Votes.{Voted, voted-still, voted-after, voted-before}
+use Rattle.subset.proofs.Votes.{and-no, and-yes, untold-same, untold-neither, Voted, voted-still, voted-after, voted-before}
 use Rattle.epoch.specs.declared.SubsetHandlingStrategy.{SubsetHandlingStrategy}
 use Rattle.epoch.specs.declared.MessageContent.{MessageContent}
 use Rattle.epoch.specs.Words.{isVacant, isComplete, isAccepted}
@@ -214,8 +215,8 @@ module _ (Holds : NetworkInfo → SubsetHandlingStrategy → Bool → List ℕ �
             silent = refl;
           }
 
-  -- A RUN FOR EPOCH e read from ws to r
-  pub record Moved (cur : ℕ) (vs ds ts : Tk) (e : ℕ) (who : Option ℕ) (ws : List Rec) (w : List ℕ) (r : List Rec) (log : List Entry) : Type 0 where
+  -- A RUN FOR EPOCH e read from ws to r; `comes` tells whether it comes to the subset
+  pub record Moved (cur : ℕ) (vs ds ts : Tk) (e : ℕ) (who : Option ℕ) (comes : Bool) (ws : List Rec) (w : List ℕ) (r : List Rec) (log : List Entry) : Type 0 where
     pub vs′ : Tk
     pub ds′ : Tk
     pub ts′ : Tk
@@ -228,11 +229,11 @@ module _ (Holds : NetworkInfo → SubsetHandlingStrategy → Bool → List ℕ �
     pub other : (i : ℕ) → eqb e i ≡ false → (vs′ i ≡ vs i) × (ds′ i ≡ ds i) × (ts′ i ≡ ts i)
     pub told : thirteensIn ws ≡ rs ++ thirteensIn r
     pub dealt : Dealt (HandOf vs′ ds′ ts′) (batchesAmong (outputs log)) rs (fivesAmong (faults log))
-    pub votes : Voted net (vs e) (ds e) ws r
+    pub votes : Voted net comes (vs e) (ds e) ws r
 
   -- it did nothing
   unmoved : (w : List ℕ) (cur : ℕ) (vs ds ts : Tk) (e : ℕ) (who : Option ℕ) (ws : List Rec) (log : List Entry) → SimOf w cur vs ds ts → outputs log ≡ [] → fivesAmong (faults log) ≡ []
-      → Moved cur vs ds ts e who ws w ws log
+      → Moved cur vs ds ts e who false ws w ws log
   unfolding batchesAmong
   unmoved w cur vs ds ts e who ws log h o f = record {
     vs′ = vs;
@@ -247,13 +248,13 @@ module _ (Holds : NetworkInfo → SubsetHandlingStrategy → Bool → List ℕ �
     other = λ i z. (refl, refl, refl);
     told = refl;
     dealt = rw (o, f) no-batch;
-    votes = voted-still net (vs e) (ds e) ws ws (λ q. refl) (λ q. refl);
+    votes = voted-still net (vs e) (ds e) (untold-same ws);
   }
 
   -- the epoch was built first
-  moved-on : (cur : ℕ) (vs ds ts : Tk) (e : ℕ) (who : Option ℕ) (ws : List Rec) (w : List ℕ) (r : List Rec) (l : List Entry) (v : List ℕ) (z : List Rec) (m : List Entry)
-      → Built e cur vs ds ts ws w r l → Moved cur vs ds ts e who r v z m → Moved cur vs ds ts e who ws v z (l ++ m)
-  moved-on cur vs ds ts e who ws w r l v z m b k =
+  moved-on : (cur : ℕ) (vs ds ts : Tk) (e : ℕ) (who : Option ℕ) (comes : Bool) (ws : List Rec) (w : List ℕ) (r : List Rec) (l : List Entry) (v : List ℕ) (z : List Rec) (m : List Entry)
+      → Built e cur vs ds ts ws w r l → Moved cur vs ds ts e who comes r v z m → Moved cur vs ds ts e who comes ws v z (l ++ m)
+  moved-on cur vs ds ts e who comes ws w r l v z m b k =
       rw (b .silent) (record {
         vs′ = k .vs′;
         ds′ = k .ds′;
@@ -267,17 +268,17 @@ module _ (Holds : NetworkInfo → SubsetHandlingStrategy → Bool → List ℕ �
         other = k .other;
         told = b .told ∙ k .told;
         dealt = k .dealt;
-        votes = voted-before net (vs e) (ds e) ws r z (b .nothing .value) (b .nothing .early) (b .nothing .asks) (k .votes);
+        votes = voted-before net (vs e) (ds e) comes (untold-neither (b .nothing)) (k .votes);
       })
 
   abbrev upd : Tk → ℕ → (ℕ → Option ℕ) → Tk
   upd g e x i = cond (eqb e i) x (g i)
 
   -- the epoch's part, then the batches
-  moved-by : (cur : ℕ) (vs ds ts : Tk) (e : ℕ) (who : Option ℕ) (ws : List Rec) (x : List ℕ) (r : List Rec) (l : List Entry) (v : List ℕ) (z : List Rec) (m : List Entry)
-      → (t : Told Holds net strategy (encrypted e) (vs e) (ds e) (ts e) who ws x r) → Quiet l
-      → Batched cur (upd vs e (t .v′)) (upd ds e (t .d′)) (upd ts e (t .t′)) r v z m → Moved cur vs ds ts e who ws v z (l ++ m)
-  moved-by cur vs ds ts e who ws x r l v z m t quiet b =
+  moved-by : (cur : ℕ) (vs ds ts : Tk) (e : ℕ) (who : Option ℕ) (comes : Bool) (ws : List Rec) (x : List ℕ) (r : List Rec) (l : List Entry) (v : List ℕ) (z : List Rec) (m : List Entry)
+      → (t : Told Holds net strategy (encrypted e) (vs e) (ds e) (ts e) who comes ws x r) → Quiet l
+      → Batched cur (upd vs e (t .v′)) (upd ds e (t .d′)) (upd ts e (t .t′)) r v z m → Moved cur vs ds ts e who comes ws v z (l ++ m)
+  moved-by cur vs ds ts e who comes ws x r l v z m t quiet b =
       let ee : eqb e e ≡ true = eq-eqb e e refl in
       let os : outputs (l ++ m) ≡ outputs m = outputs-append l m ∙ ap (λ o. o ++ outputs m) (quiet .noOutputs) in
       let fs : fivesAmong (faults (l ++ m)) ≡ fivesAmong (faults m) =
@@ -295,34 +296,34 @@ module _ (Holds : NetworkInfo → SubsetHandlingStrategy → Bool → List ℕ �
         other = λ i i≢. (rw i≢, rw i≢, rw i≢);
         told = t .thirteens ∙ b .told;
         dealt = rw (os, fs) (b .dealt);
-        votes = voted-after net (vs e) (ds e) ws r z (b .nothing .value) (b .nothing .decision) (t .votes);
+        votes = voted-after net (vs e) (ds e) comes (t .votes) (untold-neither (b .nothing));
       }
 
-  spoken : (w : List ℕ) (cur : ℕ) (vs ds ts : Tk) (e : ℕ) (who : Option ℕ) (ws : List Rec) (r : Run (List ℕ) (Unit {0})) → cur ≤ e → e ≤ cur + ahead w₀ → SimOf w cur vs ds ts
-      → After r (λ _ x q. Told Holds net strategy (encrypted e) (vs e) (ds e) (ts e) who ws x (q .rest)) → Alive (r .state) → Quiet (r .log)
-      → Gives (onward (inside (withEpoch w e) r) (λ _ w q. outputBatches w q)) (λ _ v q l. Moved cur vs ds ts e who ws v (q .rest) l)
+  spoken : (w : List ℕ) (cur : ℕ) (vs ds ts : Tk) (e : ℕ) (who : Option ℕ) (comes : Bool) (ws : List Rec) (r : Run (List ℕ) (Unit {0})) → cur ≤ e → e ≤ cur + ahead w₀ → SimOf w cur vs ds ts
+      → After r (λ _ x q. Told Holds net strategy (encrypted e) (vs e) (ds e) (ts e) who comes ws x (q .rest)) → Alive (r .state) → Quiet (r .log)
+      → Gives (onward (inside (withEpoch w e) r) (λ _ w q. outputBatches w q)) (λ _ v q l. Moved cur vs ds ts e who comes ws v (q .rest) l)
   unfolding netOf
-  spoken w cur vs ds ts e who ws r l u h a there quiet =
+  spoken w cur vs ds ts e who comes ws r l u h a there quiet =
       gives-onward (inside (withEpoch w e) r) _ _
       (gives-inside (withEpoch w e) r _ (gives-after r _ _ a (λ _ x q is t.
       let s : SimOf (withEpoch w e x) cur (upd vs e (t .v′)) (upd ds e (t .d′)) (upd ts e (t .t′)) =
       sim-with Holds w₀ w cur vs ds ts h e l u x (t .size) (rw is there) (upd vs e (t .v′)) (upd ds e (t .d′)) (upd ts e (t .t′)) (rw (eq-eqb e e refl) (t .holds)) (λ i z. (rw z, rw z, rw z)) in
       gives-map (outputBatches (withEpoch w e x) q) _ _ (batches-ok (ahead (withEpoch w e x) + 1) (withEpoch w e x) cur (upd vs e (t .v′)) (upd ds e (t .d′)) (upd ts e (t .t′)) q s)
-      (λ _ v z m b. moved-by cur vs ds ts e who ws x (q .rest) (r .log) v (z .rest) m t quiet b))))
+      (λ _ v z m b. moved-by cur vs ds ts e who comes ws x (q .rest) (r .log) v (z .rest) m t quiet b))))
 
   -- PROPOSE
   proposed-in : (w : List ℕ) (cur : ℕ) (vs ds ts : Tk) (p : Tape) → SimOf w cur vs ds ts → Good (nodes w₀) (p .rest)
       → Alive (epochWords w cur) → Holds net strategy (encrypted cur) (epochWords w cur) (vs cur) (ds cur) (ts cur)
       → Gives (onward (inside (withEpoch w cur) (proposeInEpoch net strategy (encrypted cur) (epochWords w cur) p)) (λ _ w q. outputBatches w q))
-      (λ _ v q l. Moved cur vs ds ts cur none (p .rest) v (q .rest) l)
+      (λ _ v q l. Moved cur vs ds ts cur none (isValidator net) (p .rest) v (q .rest) l)
   unfolding netOf
   proposed-in w cur vs ds ts p h g there k =
-      spoken w cur vs ds ts cur none (p .rest) (proposeInEpoch net strategy (encrypted cur) (epochWords w cur) p) (omega arith) (omega arith) h
+      spoken w cur vs ds ts cur none (isValidator net) (p .rest) (proposeInEpoch net strategy (encrypted cur) (epochWords w cur) p) (omega arith) (omega arith) h
       (laws .proposed net strategy (encrypted cur) (epochWords w cur) (vs cur) (ds cur) (ts cur) p network k g)
       (alive-propose net strategy (encrypted cur) (epochWords w cur) p there) (laws .quietProposed net strategy (encrypted cur) (epochWords w cur) p)
 
   pub proposed-ok : (w : List ℕ) (cur : ℕ) (vs ds ts : Tk) (p : Tape) → SimOf w cur vs ds ts → Good (nodes w₀) (p .rest)
-      → Gives (propose w p) (λ _ v q l. Moved cur vs ds ts cur none (p .rest) v (q .rest) l)
+      → Gives (propose w p) (λ _ v q l. Moved cur vs ds ts cur none (isValidator net) (p .rest) v (q .rest) l)
   unfolding propose inEpoch outputs faults fivesAmong
   proposed-ok w cur vs ds ts p h g =
       gives-cond (isValidator (netOf w)) _ _ _
@@ -332,33 +333,50 @@ module _ (Holds : NetworkInfo → SubsetHandlingStrategy → Bool → List ℕ �
       rw (b .sim .current, net-same Holds w₀ v cur vs ds ts (b .sim), strategy-same Holds w₀ v cur vs ds ts (b .sim), encrypted-same Holds w₀ v cur vs ds ts (b .sim) cur)
       (gives-map (onward (inside (withEpoch v cur) (proposeInEpoch net strategy (encrypted cur) (epochWords v cur) q)) (λ _ w q. outputBatches w q)) _ _
       (proposed-in v cur vs ds ts q (b .sim) (b .good) (b .there) (b .holds)) (λ _ u z m k.
-      moved-on cur vs ds ts cur none (p .rest) v (q .rest) l u (z .rest) m b k))))))
-      (λ _. unmoved w cur vs ds ts cur none (p .rest) [] h refl refl)
+      moved-on cur vs ds ts cur none (isValidator net) (p .rest) v (q .rest) l u (z .rest) m b k))))))
+      (λ o. rw (sym (ap isValidator (net-same Holds w₀ w cur vs ds ts h)) ∙ o) (unmoved w cur vs ds ts cur none (p .rest) [] h refl refl))
 
   -- MESSAGE
   module _ (sender e proposer : ℕ) (content : MessageContent) (sent : sender < nodes w₀) (named : proposer < nodes w₀) where
     handled-in : (w : List ℕ) (cur : ℕ) (vs ds ts : Tk) (p : Tape) → cur ≤ e → e ≤ cur + ahead w₀ → SimOf w cur vs ds ts → Good (nodes w₀) (p .rest)
         → Alive (epochWords w e) → Holds net strategy (encrypted e) (epochWords w e) (vs e) (ds e) (ts e)
         → Gives (onward (inside (withEpoch w e) (handleMessageContent net strategy (encrypted e) sender proposer content (epochWords w e) p)) (λ _ w q. outputBatches w q))
-        (λ _ v q l. Moved cur vs ds ts e (shareOf proposer content) (p .rest) v (q .rest) l)
+        (λ _ v q l. Moved cur vs ds ts e (shareOf proposer content) (not (isThere (shareOf proposer content))) (p .rest) v (q .rest) l)
     unfolding netOf
     handled-in w cur vs ds ts p l u h g there k =
-        spoken w cur vs ds ts e (shareOf proposer content) (p .rest) (handleMessageContent net strategy (encrypted e) sender proposer content (epochWords w e) p) l u h
+        spoken w cur vs ds ts e (shareOf proposer content) (not (isThere (shareOf proposer content))) (p .rest) (handleMessageContent net strategy (encrypted e) sender proposer content (epochWords w e) p) l u h
         (laws .handled net strategy (encrypted e) (epochWords w e) (vs e) (ds e) (ts e) p network sender proposer content sent named k g)
         (alive-message net strategy (encrypted e) sender proposer content (epochWords w e) p there) (laws .quietHandled net strategy (encrypted e) sender proposer content (epochWords w e) p)
 
+    -- no share, and an epoch of the window
+    abbrev comesAt : ℕ → Bool
+    comesAt cur = not (isThere (shareOf proposer content)) && within cur (cur + ahead w₀) e
+
+    comes-late : (cur : ℕ) → e < cur → comesAt cur ≡ false
+    comes-late cur l = rw (lt-leb cur e l) (and-no (not (isThere (shareOf proposer content))))
+
+    comes-far : (cur : ℕ) → cur + ahead w₀ < e → comesAt cur ≡ false
+    comes-far cur l = rw (lt-leb e (cur + ahead w₀) l, and-no (leb cur e)) (and-no (not (isThere (shareOf proposer content))))
+
+    comes-in : (cur : ℕ) → cur ≤ e → e ≤ cur + ahead w₀ → comesAt cur ≡ not (isThere (shareOf proposer content))
+    comes-in cur l u = rw (le-leb cur e l, le-leb e (cur + ahead w₀) u) (and-yes (not (isThere (shareOf proposer content))))
+
     pub handled-ok : (w : List ℕ) (cur : ℕ) (vs ds ts : Tk) (p : Tape) → SimOf w cur vs ds ts → Good (nodes w₀) (p .rest)
-        → Gives (handleMessage sender e proposer content w p) (λ _ v q l. Moved cur vs ds ts e (shareOf proposer content) (p .rest) v (q .rest) l)
+        → Gives (handleMessage sender e proposer content w p) (λ _ v q l. Moved cur vs ds ts e (shareOf proposer content) (comesAt cur) (p .rest) v (q .rest) l)
     unfolding handleMessage inEpoch outputs faults fivesAmong
     handled-ok w cur vs ds ts p h g =
-        gives-cond (ltb (currentEpoch w + ahead w) e) _ _ _ (λ _. unmoved w cur vs ds ts e (shareOf proposer content) (p .rest) (fault 1 sender 0 ∷ []) h refl refl)
-        (λ far. gives-cond (ltb e (currentEpoch w)) _ _ _ (λ _. unmoved w cur vs ds ts e (shareOf proposer content) (p .rest) [] h refl refl)
+        gives-cond (ltb (currentEpoch w + ahead w) e) _ _ _ (λ far.
+        rw (comes-far cur (omega (arith, h .current, h .shaped .ahead, ltb-true (currentEpoch w + ahead w) e far)))
+        (unmoved w cur vs ds ts e (shareOf proposer content) (p .rest) (fault 1 sender 0 ∷ []) h refl refl))
+        (λ far. gives-cond (ltb e (currentEpoch w)) _ _ _ (λ late.
+        rw (comes-late cur (omega (arith, h .current, ltb-true e (currentEpoch w) late))) (unmoved w cur vs ds ts e (shareOf proposer content) (p .rest) [] h refl refl))
         (λ late.
         let low : cur ≤ e = omega (arith, h .current, ltb-false e (currentEpoch w) late) in
         let up : e ≤ cur + ahead w₀ = omega (arith, h .current, h .shaped .ahead, ltb-false (currentEpoch w + ahead w) e far) in
-        gives-onward (epochStateMut e w p) _ _
+        rw (comes-in cur low up)
+        (gives-onward (epochStateMut e w p) _ _
         (gives-map (epochStateMut e w p) _ _ (mut-ok w cur vs ds ts e p low up h g) (λ _ v q l b.
         rw (net-same Holds w₀ v cur vs ds ts (b .sim), strategy-same Holds w₀ v cur vs ds ts (b .sim), encrypted-same Holds w₀ v cur vs ds ts (b .sim) e)
         (gives-map (onward (inside (withEpoch v e) (handleMessageContent net strategy (encrypted e) sender proposer content (epochWords v e) q)) (λ _ w q. outputBatches w q)) _ _
         (handled-in v cur vs ds ts q low up (b .sim) (b .good) (b .there) (b .holds)) (λ _ u z m k.
-        moved-on cur vs ds ts e (shareOf proposer content) (p .rest) v (q .rest) l u (z .rest) m b k))))))
+        moved-on cur vs ds ts e (shareOf proposer content) (not (isThere (shareOf proposer content))) (p .rest) v (q .rest) l u (z .rest) m b k)))))))

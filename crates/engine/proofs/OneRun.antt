@@ -29,7 +29,7 @@ use Rattle.engine.specs.Calls.{countFaults, proposeCall, contentOk, cont
 use Rattle.engine.specs.Laws.{Skipped}
 use Rattle.steps.specs.Batches.{Batch, batchesOf, fivesOf}
 use Rattle.engine.specs.History.{Call, turnOf, stateAfter, turns, noneFails, Event, event, eventsOf, currentAfter, history, taken, decrypted, propose as proposing, message as messaging, skip as skipping}
-use Rattle.engine.specs.Rule.{stateAfterAll}
+use Rattle.engine.specs.Rule.{stateAfterAll, speaks}
 use Rattle.engine.proofs.Skips.{skip-stays, skip-moves, skip-state}
 use Rattle.engine.proofs.Shown.{batchesAmong, batches-read, fives-read}
 use Rattle.engine.proofs.Handout.{Tk, textsOf, Hand, handout-later, Dealt, dealt-map, AllDealt}
@@ -69,20 +69,20 @@ upto-decrypted : (t : Tk) (x : Event) (h : List Event) → upto decrypted (newT 
 unfolding decrypted
 upto-decrypted t x h = fun-ext (λ i. fun-ext (λ q. orElse-assoc (t i q) (cond (eqb (x .epoch) i) (firstDecrypted q (x .shareOf) (x .answers)) none) (decrypted h i q)))
 
--- the votes of every event, where vs and ds were taken before
-unfoldable pub AllVoted : NetworkInfo → Tk → Tk → List Event → Type 0
-AllVoted net vs ds [] = Unit {0}
-AllVoted net vs ds (x ∷ xs) = Voted net (vs (x .epoch)) (ds (x .epoch)) (x .answers) [] × AllVoted net (newV vs x) (newD ds x) xs
+-- the votes of every event, where vs and ds were taken before; `far` is the look-ahead
+unfoldable pub AllVoted : NetworkInfo → ℕ → Tk → Tk → List Event → Type 0
+AllVoted net far vs ds [] = Unit {0}
+AllVoted net far vs ds (x ∷ xs) = Voted net (speaks net far x) (vs (x .epoch)) (ds (x .epoch)) (x .answers) [] × AllVoted net far (newV vs x) (newD ds x) xs
 
 -- of the event behind h, by what was taken in h
-pub voted-at : (net : NetworkInfo) (h : List Event) (x : Event) (l : List Event) (vs ds : Tk) → AllVoted net vs ds (h ++ (x ∷ l))
-    → Voted net (upto (taken ofValue) vs h (x .epoch)) (upto (taken ofDecision) ds h (x .epoch)) (x .answers) []
+pub voted-at : (net : NetworkInfo) (far : ℕ) (h : List Event) (x : Event) (l : List Event) (vs ds : Tk) → AllVoted net far vs ds (h ++ (x ∷ l))
+    → Voted net (speaks net far x) (upto (taken ofValue) vs h (x .epoch)) (upto (taken ofDecision) ds h (x .epoch)) (x .answers) []
 unfolding AllVoted taken
-voted-at net [] x l vs ds a =
-    subst₂ (λ (f g : ℕ → Option ℕ). Voted net f g (x .answers) []) (fun-ext (λ q. sym (orElse-none (vs (x .epoch) q)))) (fun-ext (λ q. sym (orElse-none (ds (x .epoch) q)))) (a .0)
-voted-at net (y ∷ h) x l vs ds a =
-    subst₂ (λ (f g : Tk). Voted net (f (x .epoch)) (g (x .epoch)) (x .answers) []) (upto-taken ofValue vs y h) (upto-taken ofDecision ds y h)
-    (voted-at net h x l (newV vs y) (newD ds y) (a .1))
+voted-at net far [] x l vs ds a =
+    subst₂ (λ (f g : ℕ → Option ℕ). Voted net (speaks net far x) f g (x .answers) []) (fun-ext (λ q. sym (orElse-none (vs (x .epoch) q)))) (fun-ext (λ q. sym (orElse-none (ds (x .epoch) q)))) (a .0)
+voted-at net far (y ∷ h) x l vs ds a =
+    subst₂ (λ (f g : Tk). Voted net (speaks net far x) (f (x .epoch)) (g (x .epoch)) (x .answers) []) (upto-taken ofValue vs y h) (upto-taken ofDecision ds y h)
+    (voted-at net far h x l (newV vs y) (newD ds y) (a .1))
 
 -- a batch stays as it is while more is taken
 hand-later : (n f : ℕ) (encrypted : ℕ → Bool) (vs ds ts vs′ ds′ ts′ : Tk) → ((e q : ℕ) → Grown (vs e q) (vs′ e q)) → ((e q : ℕ) → Grown (ds e q) (ds′ e q)) → ((e q : ℕ) → Grown (ts e q) (ts′ e q))
@@ -147,7 +147,7 @@ module _ (Holds : NetworkInfo → SubsetHandlingStrategy → Bool → List ℕ �
   pub record Stepped (cur : ℕ) (vs ds ts : Tk) (x : Event) (w : List ℕ) : Type 0 where
     pub sim : SimOf w (cur + length (x .batches)) (newV vs x) (newD ds x) (newT ts x)
     pub dealt : Dealt (HandOf (newV vs x) (newD ds x) (newT ts x)) (x .batches) (thirteensIn (x .answers)) (x .fives)
-    pub votes : Voted (netOf w₀) (vs (x .epoch)) (ds (x .epoch)) (x .answers) []
+    pub votes : Voted (netOf w₀) (speaks (netOf w₀) (ahead w₀) x) (vs (x .epoch)) (ds (x .epoch)) (x .answers) []
 
   sim-count : (w : List ℕ) (cur : ℕ) (vs ds ts : Tk) (log : List Entry) → SimOf w cur vs ds ts → SimOf (countFaults w log) cur vs ds ts
   unfolding countFaults
@@ -157,7 +157,7 @@ module _ (Holds : NetworkInfo → SubsetHandlingStrategy → Bool → List ℕ �
       go true = sim-set Holds w₀ w cur vs ds ts h faultsAt (faultCount w + length (faults log)) (omega arith) (omega arith)
       go false = sim-set Holds w₀ w cur vs ds ts h faultsAt faultLimit (omega arith) (omega arith)
 
-  stepped : (cur : ℕ) (vs ds ts : Tk) (x : Event) (w : List ℕ) (log : List Entry) → Moved Holds laws w₀ network cur vs ds ts (x .epoch) (x .shareOf) (x .answers) w [] log
+  stepped : (cur : ℕ) (vs ds ts : Tk) (x : Event) (w : List ℕ) (log : List Entry) → Moved Holds laws w₀ network cur vs ds ts (x .epoch) (x .shareOf) (speaks (netOf w₀) (ahead w₀) x) (x .answers) w [] log
       → x .batches ≡ batchesAmong (outputs log) → x .fives ≡ fivesAmong (faults log) → Stepped cur vs ds ts x (countFaults w log)
   unfolding firstTaken firstDecrypted thirteensIn
   stepped cur vs ds ts x w log m b f =
@@ -172,21 +172,23 @@ module _ (Holds : NetworkInfo → SubsetHandlingStrategy → Bool → List ℕ �
       }
 
   pub proposed : (w : List ℕ) (cur : ℕ) (vs ds ts : Tk) → SimOf w cur vs ds ts → (scratch answers step : List ℕ) → proposeCall w scratch answers step .reply ≡ 0
-      → Stepped cur vs ds ts (event cur none answers (proposeCall w scratch answers step .step)) (proposeCall w scratch answers step .state)
+      → Stepped cur vs ds ts (event cur false cur none answers (proposeCall w scratch answers step .step)) (proposeCall w scratch answers step .state)
+  unfolding speaks
   proposed w cur vs ds ts h scratch answers step e =
       let p = propose-passes w scratch answers step e in
       let run = propose w (tapeOf answers) in
       let good : Good (nodes w₀) (tapeOf answers .rest) = rw (h .shaped .nodes) at (table-good (nodes w) answers (p .1)) in
       let m = gives-out run _ tt (proposed-ok Holds laws w₀ network w cur vs ds ts (tapeOf answers) h good) (p .2 .goes) in
       rw (p .2 .state)
-      (stepped cur vs ds ts (event cur none answers (proposeCall w scratch answers step .step)) (run .state) (run .log) (rw (p .2 .rest) at m)
+      (stepped cur vs ds ts (event cur false cur none answers (proposeCall w scratch answers step .step)) (run .state) (run .log) (rw (p .2 .rest) at m)
       (ap batchesOf (p .2 .written) ∙ batches-read step (run .log) (currentEpoch w))
       (ap fivesOf (p .2 .written) ∙ fives-read step (run .log) (currentEpoch w)))
 
   pub handled : (w : List ℕ) (cur : ℕ) (vs ds ts : Tk) → SimOf w cur vs ds ts → (sender epoch content proposer item : ℕ) (scratch answers step : List ℕ)
       → messageCall w scratch answers step sender epoch content proposer item .reply ≡ 0
-      → Stepped cur vs ds ts (event epoch (cond (eqb content 3) (some proposer) none) answers (messageCall w scratch answers step sender epoch content proposer item .step))
+      → Stepped cur vs ds ts (event cur true epoch (cond (eqb content 3) (some proposer) none) answers (messageCall w scratch answers step sender epoch content proposer item .step))
       (messageCall w scratch answers step sender epoch content proposer item .state)
+  unfolding speaks
   handled w cur vs ds ts h sender epoch content proposer item scratch answers step e =
       let p = message-passes w scratch answers step sender epoch content proposer item e in
       let c = contentOf content item in
@@ -197,7 +199,7 @@ module _ (Holds : NetworkInfo → SubsetHandlingStrategy → Bool → List ℕ �
       let below : proposer < nodes w₀ = rw same at (named-below (nodes w) content proposer (p .3)) in
       let m = gives-out run _ tt (handled-ok Holds laws w₀ network sender epoch proposer c sent below w cur vs ds ts (tapeOf answers) h good) (p .4 .goes) in
       rw (p .4 .state)
-      (stepped cur vs ds ts (event epoch (cond (eqb content 3) (some proposer) none) answers (messageCall w scratch answers step sender epoch content proposer item .step)) (run .state) (run .log)
+      (stepped cur vs ds ts (event cur true epoch (cond (eqb content 3) (some proposer) none) answers (messageCall w scratch answers step sender epoch content proposer item .step)) (run .state) (run .log)
       (rw (p .4 .rest, share-is (nodes w) content proposer item (p .3)) at m)
       (ap batchesOf (p .4 .written) ∙ batches-read step (run .log) epoch)
       (ap fivesOf (p .4 .written) ∙ fives-read step (run .log) epoch))
@@ -256,7 +258,7 @@ module _ (Holds : NetworkInfo → SubsetHandlingStrategy → Bool → List ℕ �
     pub last : ℕ
     pub sim : SimOf w last (upto (taken ofValue) vs h) (upto (taken ofDecision) ds h) (upto decrypted ts h)
     pub dealt : Ends vs ds ts h
-    pub voted : AllVoted (netOf w₀) vs ds h
+    pub voted : AllVoted (netOf w₀) (ahead w₀) vs ds h
 
   ran-nothing : (w : List ℕ) (cur : ℕ) (vs ds ts : Tk) → SimOf w cur vs ds ts → Ran vs ds ts [] w
   unfolding AllDealt AllVoted taken decrypted

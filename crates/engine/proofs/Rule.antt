@@ -16,6 +16,7 @@ use Rattle.steps.proofs.Laws.{and-true}
 use Rattle.subset.specs.Words.{statusAt}
 use Rattle.subset.specs.Rule.{settledFrom, isOver}
 use Rattle.subset.proofs.Rule.{blank-over}
+use Rattle.subset.proofs.Votes.{voted-whole}
 use Rattle.epoch.specs.declared.SubsetHandlingStrategy.{SubsetHandlingStrategy}
 use Rattle.epoch.specs.declared.SubsetHandlingStrategy.the-variants.{Incremental, AllAtEnd}
 use Rattle.epoch.specs.Words.{isComplete, isAccepted, loadDecryption}
@@ -29,7 +30,7 @@ use Rattle.engine.specs.Create.{Numbers, created, createState}
 use Rattle.engine.specs.History.{Call, turns, noneFails, Event, history, valueTaken, decisionTaken, decrypted, plaintext, Handed, handed}
 use Rattle.engine.specs.Claim.{Made, Sound, historyOf, encryptedOf}
 use Rattle.engine.specs.Outputs.{pairsIn, pairsRead, plaintextOf, timesAskedIn, isHandled}
-use Rattle.engine.specs.Rule.{stateAfterAll, endOf, netIn, strategyIn, Votes, EngineRule}
+use Rattle.engine.specs.Rule.{stateAfterAll, endOf, netIn, speaks, strategyIn, Votes, EngineRule}
 use Rattle.engine.proofs.Created.{create-passes}
 use Rattle.engine.proofs.Entries.{entries-given, slot-decrypted}
 use Rattle.engine.proofs.Eights.{run-eighted}
@@ -45,7 +46,7 @@ untaken e q = none
 record Known (w₀ : List ℕ) (c : Numbers) (cs : List Call) : Type 0 where
   last : ℕ
   sim : Sim Holds w₀ (stateAfterAll w₀ cs) last (valueTaken (history (c .epoch) (turns w₀ cs))) (decisionTaken (history (c .epoch) (turns w₀ cs))) (decrypted (history (c .epoch) (turns w₀ cs)))
-  voted : AllVoted (netOf w₀) untaken untaken (history (c .epoch) (turns w₀ cs))
+  voted : AllVoted (netOf w₀) (c .ahead) untaken untaken (history (c .epoch) (turns w₀ cs))
   network : Network (netOf w₀)
   nodes : netOf w₀ .«num_nodes» ≡ c .nodes
   faulty : netOf w₀ .«num_faulty» ≡ c .faulty
@@ -214,11 +215,12 @@ eights-over-ok m s e p l o =
     ∙ ap (λ x. cond (encryptedOf m e && x) 1 0) (over-handled (netIn m) (strategyIn m) (valueTaken (historyOf m) e) (decisionTaken (historyOf m) e) o p l)
 
 -- VOTES
-pub votes-ok : (m : Made) → Sound m → (h : List Event) (x : Event) (l : List Event) → historyOf m ≡ h ++ (x ∷ l) → Votes (netIn m) h x
-unfolding orElse firstTaken
+pub votes-ok : (m : Made) → Sound m → (h : List Event) (x : Event) (l : List Event) → historyOf m ≡ h ++ (x ∷ l) → Votes (netIn m) (m .numbers .ahead) h x
+unfolding orElse
 votes-ok m s h x l e =
-    let v = voted-at (netIn m) h x l untaken untaken (rw e at (known m s .voted)) in
-    record { one = λ p y below a t b. v .one p y a b t refl; zero = λ p below few many o. v .zero (λ q. refl) p below few many o }
+    let v = voted-whole (netIn m) (speaks (netIn m) (m .numbers .ahead) x) (valueTaken h (x .epoch)) (decisionTaken h (x .epoch)) (x .answers)
+    (voted-at (netIn m) (m .numbers .ahead) h x l untaken untaken (rw e at (known m s .voted))) in
+    record { one = v .one; zero = v .zero; broadcasts = v .broadcast; agrees = v .agreement }
 
 -- THE RULE
 pub engine-rule : EngineRule

@@ -56,6 +56,10 @@ noneFails (t ∷ ts) = ltb (t .reply) 20 && noneFails ts
 
 -- THE HISTORY: "What follows counts calls with reply 0 only, each with its whole chain of answers."
 pub record Event : Type 0 where
+  -- the epoch current before it
+  pub current : ℕ
+  -- a message, or a propose
+  pub isMessage : Bool
   -- "A message is for the epoch it names, a propose for the epoch current before it."
   pub epoch : ℕ
   -- the proposer of a share message
@@ -64,14 +68,22 @@ pub record Event : Type 0 where
   pub batches : List Batch
   pub fives : List ℕ
 
-abbrev pub event : ℕ → Option ℕ → List ℕ → List ℕ → Event
-event epoch shareOf answers step =
-    record { epoch = epoch; shareOf = shareOf; answers = tapeOf answers .rest; batches = batchesOf step; fives = fivesOf step }
+abbrev pub event : ℕ → Bool → ℕ → Option ℕ → List ℕ → List ℕ → Event
+event current isMessage epoch shareOf answers step =
+    record {
+      current = current;
+      isMessage = isMessage;
+      epoch = epoch;
+      shareOf = shareOf;
+      answers = tapeOf answers .rest;
+      batches = batchesOf step;
+      fives = fivesOf step;
+    }
 
 unfoldable pub eventsOf : ℕ → Call → List ℕ → List Event
-eventsOf current (propose scratch answers step₀) step = event current none answers step ∷ []
+eventsOf current (propose scratch answers step₀) step = event current false current none answers step ∷ []
 eventsOf current (message sender epoch content proposer item scratch answers step₀) step =
-    event epoch (cond (eqb content 3) (some proposer) none) answers step ∷ []
+    event current true epoch (cond (eqb content 3) (some proposer) none) answers step ∷ []
 eventsOf current (skip target) step = []
 
 -- "each batch handed out adds one, each skip raises it to its target if higher"

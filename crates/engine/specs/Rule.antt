@@ -2,13 +2,15 @@
 -- proved as `engine-rule` in proofs/Rule.antt. And the range rule over every call.
 use Prim.Native.Nat.{ℕ, _+_, _≤_, _<_}
 use mathlib.Core.Path.{_≡_}
+use mathlib.Core.Logic.{_≢_}
 use mathlib.Core.List.{List, [], _∷_, _++_, List·Memᴰ}
-use mathlib.Core.Bool.{Bool, true, false, cond, _&&_}
+use mathlib.Core.Bool.{Bool, true, false, cond, _&&_, not}
 use mathlib.Core.Option.{Option, none, some}
+use lib.Dec.{eqb}
 use Rattle.steps.specs.declared.network_info.NetworkInfo.{NetworkInfo}
-use Rattle.steps.specs.Network.{numCorrect}
+use Rattle.steps.specs.Network.{isValidator, numCorrect}
 use Rattle.steps.specs.Table.{within}
-use Rattle.steps.specs.Taken.{orElse, isTrue, firstTaken, ofValue, asked, onesFrom}
+use Rattle.steps.specs.Taken.{orElse, isThere, isTrue, firstTaken, ofValue, asked, onesFrom}
 use Rattle.subset.specs.Rule.{isOver}
 use Rattle.epoch.specs.declared.SubsetHandlingStrategy.{SubsetHandlingStrategy}
 use Rattle.epoch.specs.Words.{isComplete, isAccepted, loadDecryption}
@@ -36,17 +38,31 @@ strategyIn m = strategyOf (createState (m .numbers) (m .words))
 abbrev pub decidedBefore7 : List Event → Event → ℕ → Option ℕ
 decidedBefore7 h x p = orElse (decisionTaken h (x .epoch) p) (firstTaken (within 5 6) p (x .answers))
 
+-- the call of x comes to the subset of its epoch: a propose of a validator, or a message that is no share, for an epoch from the current
+-- one up to look-ahead more ("Epoch 5, F 3: 8 handled, 9 fault 1, 4 empty step.")
+unfoldable pub speaks : NetworkInfo → ℕ → Event → Bool
+speaks net ahead x =
+    cond (x .isMessage)
+    (not (isThere (x .shareOf)) && within (x .current) (x .current + ahead) (x .epoch))
+    (isValidator net)
+
 -- the votes in one call x, after the calls h
-pub record Votes (net : NetworkInfo) (h : List Event) (x : Event) : Type 0 where
-  -- "a delivered value earns a vote 1 while its agreement is undecided"
-  pub one : (p v : ℕ) → p < net .«num_nodes» → valueTaken h (x .epoch) p ≡ none → firstTaken ofValue p (x .answers) ≡ some v
-      → decisionTaken h (x .epoch) p ≡ none → asked 6 p (x .answers) ≡ true
-  -- "N−f ones bring vote 0 to undecided agreements without a vote"
-  pub zero : (p : ℕ) → p < net .«num_nodes» → onesFrom (decisionTaken h (x .epoch)) (net .«num_nodes») 0 < numCorrect net
-      → numCorrect net ≤ onesFrom (decidedBefore7 h x) (net .«num_nodes») 0 → decidedBefore7 h x p ≡ none → asked 7 p (x .answers) ≡ true
+pub record Votes (net : NetworkInfo) (ahead : ℕ) (h : List Event) (x : Event) : Type 0 where
+  -- "a delivered value earns a vote 1 while its agreement is undecided": then, and only then, vote 1 is asked for
+  pub one : (p : ℕ)
+      → asked 6 p (x .answers) ≡ (isThere (firstTaken ofValue p (x .answers)) && not (isThere (decisionTaken h (x .epoch) p)))
+  -- "N−f ones bring vote 0 to undecided agreements without a vote", in the Rust also to those with one, "again on each such call. Above: no
+  -- vote.": in every call that comes to a subset with exactly N−f ones, and in no other
+  pub zero : (p : ℕ) → p < net .«num_nodes»
+      → asked 7 p (x .answers)
+      ≡ (speaks net ahead x && (eqb (onesFrom (decidedBefore7 h x) (net .«num_nodes») 0) (numCorrect net) && not (isThere (decidedBefore7 h x p))))
+  -- "No outside call is made in HasValue for broadcast, in Accepted for agreement, in Complete at all."
+  pub broadcasts : (k p : ℕ) → ofValue k ≡ true → asked k p (x .answers) ≡ true
+      → (valueTaken h (x .epoch) p ≡ none) × (decisionTaken h (x .epoch) p ≢ some 0)
+  pub agrees : (p : ℕ) → asked 5 p (x .answers) ≡ true → decisionTaken h (x .epoch) p ≡ none
 
 pub record PaperRule (m : Made) : Type 0 where
-  pub votes : (h : List Event) (x : Event) (l : List Event) → historyOf m ≡ h ++ (x ∷ l) → Votes (netIn m) h x
+  pub votes : (h : List Event) (x : Event) (l : List Event) → historyOf m ≡ h ++ (x ∷ l) → Votes (netIn m) (m .numbers .ahead) h x
   -- "when all have decided, at least N−f of them 1, and every value decided 1 is here": for every epoch that is in the state
   pub complete : (e : ℕ) → currentEpoch (endOf m) ≤ e → e ≤ currentEpoch (endOf m) + ahead (endOf m)
       → isComplete (epochWords (endOf m) e) ≡ isOver (netIn m) (valueTaken (historyOf m) e) (decisionTaken (historyOf m) e)

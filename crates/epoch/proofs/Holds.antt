@@ -23,6 +23,7 @@ use Rattle.subset.proofs.After.{After, after-map, after-onward, after-inside}
 use Rattle.subset.proofs.Proposals.{outputOf}
 use Rattle.subset.proofs.Frames.{differ}
 use Rattle.subset.proofs.Held.{Held, isOut}
+use Rattle.subset.proofs.Taken.{cell, settled-cell}
 use Rattle.epoch.specs.declared.SubsetHandlingStrategy.{SubsetHandlingStrategy}
 use Rattle.epoch.specs.declared.SubsetHandlingStrategy.the-variants.{Incremental, AllAtEnd}
 use Rattle.epoch.specs.Words.{isAccepted}
@@ -58,25 +59,7 @@ pub record Holds (net : NetworkInfo) (strategy : SubsetHandlingStrategy) (encryp
   pub texts : TextsOk encrypted (net .«num_nodes») w v t
   pub stage : Going net strategy w v d ⊎ Done net w v d
 
--- WHAT IS SETTLED, proposer by proposer
-abbrev cell : Option ℕ → Option ℕ → Bool
-cell v d = isThere d && (not (isTrue d) || isThere v)
-
-settled-cell : (v d : ℕ → Option ℕ) (m p : ℕ) → settledFrom v d m p ≡ true → (q : ℕ) → p ≤ q → q < p + m → cell (v q) (d q) ≡ true
-unfolding settledFrom
-settled-cell v d zero p e q l h = absurd (omega arith)
-settled-cell v d (suc m) p e q l h = go (eqb q p) refl (settled-cell v d m (p + 1) (two .1) q)
-  where
-    two : (cell (v p) (d p) ≡ true) × (settledFrom v d m (p + 1) ≡ true)
-    two = and-true (cell (v p) (d p)) (settledFrom v d m (p + 1)) e
-
-    go : (x : Bool) → eqb q p ≡ x → (p + 1 ≤ q → q < p + 1 + m → cell (v q) (d q) ≡ true) → cell (v q) (d q) ≡ true
-    go true y f = rw (eqb-true q p y) (two .0)
-    go false y f = let ne = eqb-false q p y in f (omega arith) (omega arith)
-
-pub settled-decided : (v d : ℕ → Option ℕ) (m : ℕ) → settledFrom v d m 0 ≡ true → (q : ℕ) → q < m → isThere (d q) ≡ true
-settled-decided v d m e q l = and-true (isThere (d q)) (not (isTrue (d q)) || isThere (v q)) (settled-cell v d m 0 e q (omega arith) (omega arith)) .0
-
+-- WHAT IS SETTLED has its output
 out-true : (a b : Option ℕ) → Bit b → cell a b ≡ true → isThere (outputOf a b) ≡ isTrue b
 unfolding isThere isTrue Bit
 out-true a none k e = absurd (false≢true e)

@@ -12,7 +12,7 @@ use lib.Seq.{getD-set-same}
 use lib.Dec.{eqb}
 use borrow.Author.Tests.{eqb-true, eqb-false}
 use Rattle.steps.specs.declared.network_info.NetworkInfo.{NetworkInfo}
-use Rattle.steps.specs.Network.{Network}
+use Rattle.steps.specs.Network.{Network, isValidator}
 use Rattle.steps.specs.Answers.{Rec, Tape}
 use Rattle.steps.specs.Table.{within}
 use Rattle.steps.specs.Runs.{Verdict, going, refused, failed, Run}
@@ -24,13 +24,13 @@ use Rattle.steps.proofs.Past.{Past, Others, past-first, past-thirteens, past-de
 use Rattle.decryption.specs.Decrypt.{handleMessage as handleShare}
 use Rattle.subset.specs.Words.{recordLength, epochLength, statusAt, decidedAt, acceptedAt, countAt, recordAt}
 use Rattle.subset.specs.Subset.{propose as proposeSubset, handleMessage as handleSubset}
-use Rattle.subset.specs.Rule.{isOver, settledFrom, proposing, broadcasting, agreeing, callSubset as callRule}
+use Rattle.subset.specs.Rule.{isOver, settledFrom, proposing, broadcasting, agreeing, callSubset as callRule, speaks}
 use Rattle.subset.proofs.After.{After, after-map, after-cond, after-onward}
 use Rattle.subset.proofs.Calls.{Called, call-ok}
-use Rattle.subset.proofs.Votes.{voted-still, voted-called, voted-after, voted-before, past-asks}
+use Rattle.subset.proofs.Votes.{untold-same, untold-past, Voted, voted-still, voted-done, voted-after, voted-before}
 use Rattle.subset.proofs.Rule.{blank-over, blank-word, blank-held}
 use Rattle.subset.proofs.Held.{Held}
-use Rattle.subset.proofs.Taken.{put-same, put-other, more}
+use Rattle.subset.proofs.Taken.{put-same, put-other, more, settled-decided}
 use Rattle.epoch.specs.declared.SubsetHandlingStrategy.{SubsetHandlingStrategy}
 use Rattle.epoch.specs.declared.SubsetHandlingStrategy.the-variants.{Incremental, AllAtEnd}
 use Rattle.epoch.specs.declared.MessageContent.{MessageContent}
@@ -41,17 +41,17 @@ use Rattle.epoch.specs.Batch.{decryptedFrom, isReadyIn, isRead, isReady}
 use Rattle.epoch.proofs.Told.{nothing, shareOf, Told, Ready, EpochLaws}
 use Rattle.epoch.proofs.Shares.{by-share}
 use Rattle.epoch.proofs.Orderly.{Orderly}
-use Rattle.epoch.proofs.Passes.{subsetKinds, decryptionKinds, subset-eight, subset-twelve, subset-thirteen, decryption-value, decryption-decision, decryption-thirteen, outside-status, outside-accepted, outside-record, Frame, propose-subset-runs, handle-subset-runs, quiet-proposed, quiet-handled}
+use Rattle.epoch.proofs.Passes.{subsetKinds, decryptionKinds, subset-eight, subset-twelve, subset-thirteen, decryption-value, decryption-decision, decryption-subset, decryption-thirteen, outside-status, outside-accepted, outside-record, Frame, propose-subset-runs, handle-subset-runs, quiet-proposed, quiet-handled}
 use Rattle.epoch.proofs.Texts.{after-ask, reads-past, after-with}
 use Rattle.epoch.proofs.Entries.{accepted-kept}
 use Rattle.epoch.proofs.Handled.{TextOk, text-words, text-value, opening-ran, Dealt, share-entry, TextsOk}
 use Rattle.epoch.proofs.Contributions.{same-stays, held-same}
-use Rattle.epoch.proofs.Holds.{handledBy, Going, Done, Holds, settled-decided, process-ok}
+use Rattle.epoch.proofs.Holds.{handledBy, Going, Done, Holds, process-ok}
 
 -- A CALL THAT READS NOTHING
-told-still : (net : NetworkInfo) (strategy : SubsetHandlingStrategy) (encrypted : Bool) (w : List ℕ) (v d t : ℕ → Option ℕ) (who : Option ℕ) (ws : List Rec)
-    → Holds net strategy encrypted w v d t → Good (net .«num_nodes») ws → Told Holds net strategy encrypted v d t who ws w ws
-told-still net strategy encrypted w v d t who ws h g = record {
+told-still : (net : NetworkInfo) (strategy : SubsetHandlingStrategy) (encrypted : Bool) (w : List ℕ) (v d t : ℕ → Option ℕ) (who : Option ℕ) (comes : Bool) (ws : List Rec)
+    → Holds net strategy encrypted w v d t → Good (net .«num_nodes») ws → Voted net comes v d ws ws → Told Holds net strategy encrypted v d t who comes ws w ws
+told-still net strategy encrypted w v d t who comes ws h g k = record {
   v′ = v;
   d′ = d;
   t′ = t;
@@ -63,14 +63,14 @@ told-still net strategy encrypted w v d t who ws h g = record {
   decision = λ q. refl;
   text = λ q. refl;
   thirteens = refl;
-  votes = voted-still net v d ws ws (λ q. refl) (λ q. refl);
+  votes = k;
 }
 
 -- answers before a call that tell nothing
-told-before : (is : ℕ → Bool) → Others is ofValue → Others is ofDecision → Others is (within 5 6) → Others is (λ k. eqb k 8) → Others is (λ k. eqb k 12) → Others is (λ k. eqb k 13)
-    → (net : NetworkInfo) (strategy : SubsetHandlingStrategy) (encrypted : Bool) (v d t : ℕ → Option ℕ) (who : Option ℕ) (ws r : List Rec) (w : List ℕ) (z : List Rec)
-    → Past is ws r → Told Holds net strategy encrypted v d t who r w z → Told Holds net strategy encrypted v d t who ws w z
-told-before is f g early e tw th net strategy encrypted v d t who ws r w z p k = record {
+told-before : (is : ℕ → Bool) → Others is ofValue → Others is ofDecision → Others is (within 3 7) → Others is (λ k. eqb k 8) → Others is (λ k. eqb k 12) → Others is (λ k. eqb k 13)
+    → (net : NetworkInfo) (strategy : SubsetHandlingStrategy) (encrypted : Bool) (v d t : ℕ → Option ℕ) (who : Option ℕ) (comes : Bool) (ws r : List Rec) (w : List ℕ) (z : List Rec)
+    → Past is ws r → Told Holds net strategy encrypted v d t who comes r w z → Told Holds net strategy encrypted v d t who comes ws w z
+told-before is f g other e tw th net strategy encrypted v d t who comes ws r w z p k = record {
   v′ = k .v′;
   d′ = k .d′;
   t′ = k .t′;
@@ -82,7 +82,7 @@ told-before is f g early e tw th net strategy encrypted v d t who ws r w z p k =
   decision = λ q. ap (orElse (d q)) (past-first is ofDecision g p q) ∙ k .decision q;
   text = λ q. ap (orElse (t q)) (past-decrypted is e tw p q who) ∙ k .text q;
   thirteens = past-thirteens is th p ∙ k .thirteens;
-  votes = voted-before net v d ws r z (past-first is ofValue f p) (past-first is (within 5 6) early p) (past-asks is ws r p) (k .votes);
+  votes = voted-before net v d comes (untold-past is other ws r p) (k .votes);
 }
 
 -- A SHARE
@@ -116,7 +116,7 @@ module _ (net : NetworkInfo) (strategy : SubsetHandlingStrategy) (encrypted : Bo
     accepted = λ q l. bit q ∙ s .accepted q l;
   })
 
-  told-dealt : Told Holds net strategy encrypted v d t (some p) ws w′ r
+  told-dealt : Told Holds net strategy encrypted v d t (some p) false ws w′ r
   told-dealt =
       let o = opening-ran t p ws (a .o) r (a .ran) in
       record {
@@ -131,11 +131,11 @@ module _ (net : NetworkInfo) (strategy : SubsetHandlingStrategy) (encrypted : Bo
         decision = λ q. ap (orElse (d q)) (past-first decryptionKinds ofDecision decryption-decision (a .ran .past) q);
         text = o .text;
         thirteens = past-thirteens decryptionKinds decryption-thirteen (a .ran .past);
-        votes = voted-still net v d ws r (past-first decryptionKinds ofValue decryption-value (a .ran .past)) (past-first decryptionKinds ofDecision decryption-decision (a .ran .past));
+        votes = voted-still net v d (untold-past decryptionKinds decryption-subset ws r (a .ran .past));
       }
 
 -- A CALL OF THE SUBSET, and what it hands up
-module _ (net : NetworkInfo) (strategy : SubsetHandlingStrategy) (encrypted : Bool) (w : List ℕ) (v d t : ℕ → Option ℕ) (who : Option ℕ)
+module _ (net : NetworkInfo) (strategy : SubsetHandlingStrategy) (encrypted : Bool) (w : List ℕ) (v d t : ℕ → Option ℕ) (who : Option ℕ) (comes : Bool)
     (h : Holds net strategy encrypted w v d t) (s : Going net strategy w v d) where
   abbrev N : ℕ
   N = net .«num_nodes»
@@ -143,8 +143,8 @@ module _ (net : NetworkInfo) (strategy : SubsetHandlingStrategy) (encrypted : Bo
   abbrev old : ℕ → Bool
   old = handledBy strategy v d
 
-  called-then : (ws : List Rec) (done : Bool) (w₁ : List ℕ) (u : Tape) → Good N ws → Called old net v d ws done w₁ (u .rest) → Past subsetKinds ws (u .rest) → Frame N w w₁
-      → After (processSubset net strategy encrypted done w₁ u) (λ _ w′ z. Told Holds net strategy encrypted v d t who ws w′ (z .rest))
+  called-then : (ws : List Rec) (done : Bool) (w₁ : List ℕ) (u : Tape) → Good N ws → Called old net comes v d ws done w₁ (u .rest) → Past subsetKinds ws (u .rest) → Frame N w w₁
+      → After (processSubset net strategy encrypted done w₁ u) (λ _ w′ z. Told Holds net strategy encrypted v d t who comes ws w′ (z .rest))
   called-then ws done w₁ u g c past f =
       after-map (processSubset net strategy encrypted done w₁ u) _ _
       (process-ok net strategy encrypted v d (c .v′) (c .d′) t w₁ who u done (c .held) texts₁ (λ q l. bit q ∙ s .accepted q l) (f statusAt (outside-status N) ∙ s .status) (c .decided) (c .says (s .over)))
@@ -160,9 +160,7 @@ module _ (net : NetworkInfo) (strategy : SubsetHandlingStrategy) (encrypted : Bo
         decision = λ q. c .linked .decision q ∙ ap (orElse (c .d′ q)) (past-first decryptionKinds ofDecision decryption-decision (p .opening .past) q);
         text = λ q. ap (orElse (t q)) (past-decrypted subsetKinds subset-eight subset-twelve past q who) ∙ p .opening .text q;
         thirteens = past-thirteens subsetKinds subset-thirteen past ∙ past-thirteens decryptionKinds decryption-thirteen (p .opening .past);
-        votes =
-            voted-after net v d ws (u .rest) (z .rest) (past-first decryptionKinds ofValue decryption-value (p .opening .past))
-            (past-first decryptionKinds ofDecision decryption-decision (p .opening .past)) (voted-called net v d old ws done w₁ (u .rest) c);
+        votes = voted-after net v d comes (c .votes) (untold-past decryptionKinds decryption-subset (u .rest) (z .rest) (p .opening .past));
       })
     where
       bit : (q : ℕ) → isAccepted w₁ q ≡ isAccepted w q
@@ -185,8 +183,8 @@ module _ (net : NetworkInfo) (strategy : SubsetHandlingStrategy) (encrypted : Bo
       go (failed m) e = rw e tt
 
   going-ok : (call : List ℕ → Tape → Run (List ℕ) Bool) (u : Tape) → Good N (u .rest)
-      → After (call w u) (λ done w₁ z. Called old net v d (u .rest) done w₁ (z .rest)) → Orderly (Frame N w) subsetKinds u (call w u)
-      → After (callSubset net strategy encrypted call w u) (λ _ w′ z. Told Holds net strategy encrypted v d t who (u .rest) w′ (z .rest))
+      → After (call w u) (λ done w₁ z. Called old net comes v d (u .rest) done w₁ (z .rest)) → Orderly (Frame N w) subsetKinds u (call w u)
+      → After (callSubset net strategy encrypted call w u) (λ _ w′ z. Told Holds net strategy encrypted v d t who comes (u .rest) w′ (z .rest))
   unfolding callSubset
   going-ok call u g c o =
       rw (s .status)
@@ -196,42 +194,44 @@ module _ (net : NetworkInfo) (strategy : SubsetHandlingStrategy) (encrypted : Bo
       called-then (u .rest) done w₁ z g (a .0) (a .1 .0) (a .1 .1)))))
 
 -- any call of the subset
-pub record Subset (net : NetworkInfo) (call : List ℕ → Tape → Run (List ℕ) Bool) : Type 0 where
+pub record Subset (net : NetworkInfo) (comes : Bool) (call : List ℕ → Tape → Run (List ℕ) Bool) : Type 0 where
   pub called : (old : ℕ → Bool) (w : List ℕ) (v d : ℕ → Option ℕ) → Held old (net .«num_nodes») w v d → (u : Tape) → Good (net .«num_nodes») (u .rest)
-      → getD w decidedAt 0 ≡ cond (isOver net v d) 1 0 → After (call w u) (λ done w₁ z. Called old net v d (u .rest) done w₁ (z .rest))
+      → getD w decidedAt 0 ≡ cond (isOver net v d) 1 0 → After (call w u) (λ done w₁ z. Called old net comes v d (u .rest) done w₁ (z .rest))
   pub orderly : (w : List ℕ) (u : Tape) → Orderly (Frame (net .«num_nodes») w) subsetKinds u (call w u)
 
-pub proposes : (net : NetworkInfo) → Subset net (proposeSubset net 22)
-unfolding callRule
+pub proposes : (net : NetworkInfo) → Subset net (isValidator net) (proposeSubset net 22)
+unfolding callRule speaks
 proposes net = record { called = λ old w v d h u g e. call-ok old net w v d h u g e proposing; orderly = λ w u. propose-subset-runs net 22 w w u (λ i o. refl) }
 
-pub broadcasts : (net : NetworkInfo) (p : ℕ) → Subset net (handleSubset net 23 1 p)
-unfolding callRule
+pub broadcasts : (net : NetworkInfo) (p : ℕ) → Subset net true (handleSubset net 23 1 p)
+unfolding callRule speaks
 broadcasts net p = record { called = λ old w v d h u g e. call-ok old net w v d h u g e (broadcasting p); orderly = λ w u. handle-subset-runs net 23 w 1 p w u (λ i o. refl) }
 
-pub agrees : (net : NetworkInfo) (p : ℕ) → Subset net (handleSubset net 23 2 p)
-unfolding callRule
+pub agrees : (net : NetworkInfo) (p : ℕ) → Subset net true (handleSubset net 23 2 p)
+unfolding callRule speaks
 agrees net p = record { called = λ old w v d h u g e. call-ok old net w v d h u g e (agreeing p); orderly = λ w u. handle-subset-runs net 23 w 2 p w u (λ i o. refl) }
 
 module _ (net : NetworkInfo) (strategy : SubsetHandlingStrategy) (encrypted : Bool) (w : List ℕ) (v d t : ℕ → Option ℕ) (h : Holds net strategy encrypted w v d t) where
-  subset-ok : (call : List ℕ → Tape → Run (List ℕ) Bool) → Subset net call → (u : Tape) (who : Option ℕ) → Good (net .«num_nodes») (u .rest)
-      → After (callSubset net strategy encrypted call w u) (λ _ w′ z. Told Holds net strategy encrypted v d t who (u .rest) w′ (z .rest))
+  subset-ok : (comes : Bool) (call : List ℕ → Tape → Run (List ℕ) Bool) → Subset net comes call → (u : Tape) (who : Option ℕ) → Good (net .«num_nodes») (u .rest)
+      → After (callSubset net strategy encrypted call w u) (λ _ w′ z. Told Holds net strategy encrypted v d t who comes (u .rest) w′ (z .rest))
   unfolding callSubset
-  subset-ok call c u who g = go (h .stage)
+  subset-ok comes call c u who g = go (h .stage)
     where
-      go : Going net strategy w v d ⊎ Done net w v d → After (callSubset net strategy encrypted call w u) (λ _ w′ z. Told Holds net strategy encrypted v d t who (u .rest) w′ (z .rest))
+      go : Going net strategy w v d ⊎ Done net w v d → After (callSubset net strategy encrypted call w u) (λ _ w′ z. Told Holds net strategy encrypted v d t who comes (u .rest) w′ (z .rest))
       go (inl s) =
-          going-ok net strategy encrypted w v d t who h s call u g
+          going-ok net strategy encrypted w v d t who comes h s call u g
           (c .called (handledBy strategy v d) w v d (s .held) u g (s .undecided ∙ ap (λ x. cond x 1 0) (sym (s .over)))) (c .orderly w u)
-      go (inr s) = rw (s .status) (told-still net strategy encrypted w v d t who (u .rest) h g)
+      go (inr s) =
+          rw (s .status)
+          (told-still net strategy encrypted w v d t who comes (u .rest) h g (voted-done net v d comes (settled-decided v d (net .«num_nodes») (s .settled)) (u .rest)))
 
   share-ok : (sender p share : ℕ) → p < net .«num_nodes» → (u : Tape) → Good (net .«num_nodes») (u .rest)
-      → After (handleDecryptionShare net sender p share w u) (λ _ w′ z. Told Holds net strategy encrypted v d t (some p) (u .rest) w′ (z .rest))
+      → After (handleDecryptionShare net sender p share w u) (λ _ w′ z. Told Holds net strategy encrypted v d t (some p) false (u .rest) w′ (z .rest))
   share-ok sender p share l u g =
-      by-share net p w u (λ r. After r (λ _ w′ z. Told Holds net strategy encrypted v d t (some p) (u .rest) w′ (z .rest))) sender share
-      (told-still net strategy encrypted w v d t (some p) (u .rest) h g) deals
+      by-share net p w u (λ r. After r (λ _ w′ z. Told Holds net strategy encrypted v d t (some p) false (u .rest) w′ (z .rest))) sender share
+      (told-still net strategy encrypted w v d t (some p) false (u .rest) h g (voted-still net v d (untold-same (u .rest)))) deals
     where
-      deals : After (callEntry net p (handleShare net p sender share) w u) (λ _ w′ z. Told Holds net strategy encrypted v d t (some p) (u .rest) w′ (z .rest))
+      deals : After (callEntry net p (handleShare net p sender share) w u) (λ _ w′ z. Told Holds net strategy encrypted v d t (some p) false (u .rest) w′ (z .rest))
       deals =
           after-map (callEntry net p (handleShare net p sender share) w u) _ _
           (share-entry net p w u l (h .size) encrypted sender share (isAccepted w p) (v p) (t p) (h .texts p l))
@@ -239,23 +239,23 @@ module _ (net : NetworkInfo) (strategy : SubsetHandlingStrategy) (encrypted : Bo
 
   -- THE EPOCH'S TWO CALLS
   pub handled-ok : (sender p : ℕ) (content : MessageContent) → p < net .«num_nodes» → (u : Tape) → Good (net .«num_nodes») (u .rest)
-      → After (handleMessageContent net strategy encrypted sender p content w u) (λ _ w′ z. Told Holds net strategy encrypted v d t (shareOf p content) (u .rest) w′ (z .rest))
-  unfolding handleMessageContent shareOf
-  handled-ok sender p Broadcast l u g = subset-ok (handleSubset net 23 1 p) (broadcasts net p) u none g
-  handled-ok sender p Agreement l u g = subset-ok (handleSubset net 23 2 p) (agrees net p) u none g
+      → After (handleMessageContent net strategy encrypted sender p content w u) (λ _ w′ z. Told Holds net strategy encrypted v d t (shareOf p content) (not (isThere (shareOf p content))) (u .rest) w′ (z .rest))
+  unfolding handleMessageContent shareOf isThere
+  handled-ok sender p Broadcast l u g = subset-ok true (handleSubset net 23 1 p) (broadcasts net p) u none g
+  handled-ok sender p Agreement l u g = subset-ok true (handleSubset net 23 2 p) (agrees net p) u none g
   handled-ok sender p (DecryptionShare share) l u g = share-ok sender p share l u g
 
   pub proposed-ok : (u : Tape) → Good (net .«num_nodes») (u .rest)
-      → After (propose net strategy encrypted w u) (λ _ w′ z. Told Holds net strategy encrypted v d t none (u .rest) w′ (z .rest))
+      → After (propose net strategy encrypted w u) (λ _ w′ z. Told Holds net strategy encrypted v d t none (isValidator net) (u .rest) w′ (z .rest))
   unfolding propose
   proposed-ok u g =
       after-ask u 2 w _ _ (λ a b z r.
       let two = reads-past serialised u 2 b z refl r in
       after-cond (eqb a 0) _ _ _ tt
       (after-map (callSubset net strategy encrypted (proposeSubset net 22) w z) _ _
-      (subset-ok (proposeSubset net 22) (proposes net) z none (past-good serialised (net .«num_nodes») two g)) (λ _ w′ y k.
+      (subset-ok (isValidator net) (proposeSubset net 22) (proposes net) z none (past-good serialised (net .«num_nodes») two g)) (λ _ w′ y k.
       told-before serialised (λ k e. rw (eqb-true k 2 e)) (λ k e. rw (eqb-true k 2 e)) (λ k e. rw (eqb-true k 2 e)) (λ k e. rw (eqb-true k 2 e)) (λ k e. rw (eqb-true k 2 e)) (λ k e. rw (eqb-true k 2 e))
-      net strategy encrypted v d t none (u .rest) (z .rest) w′ (y .rest) two k)))
+      net strategy encrypted v d t none (isValidator net) (u .rest) (z .rest) w′ (y .rest) two k)))
     where
       serialised : ℕ → Bool
       serialised k = eqb k 2

@@ -91,6 +91,9 @@ decryption-value = decryption-low 3 4 (omega arith)
 pub decryption-decision : Others decryptionKinds ofDecision
 decryption-decision = decryption-low 5 7 (omega arith)
 
+pub decryption-subset : Others decryptionKinds (within 3 7)
+decryption-subset = decryption-low 3 7 (omega arith)
+
 pub decryption-thirteen : Others decryptionKinds (λ k. eqb k 13)
 decryption-thirteen k e = ne-eqb k 13 (λ z. omega (arith, leb-true k 12 (and-true (leb 8 k) (leb k 12) e .1)))
 

@@ -2,12 +2,12 @@
 use Prim.Native.Nat.{ℕ, _≤_, _<_}
 use mathlib.Core.Path.{_≡_}
 use mathlib.Core.List.{List, [], _∷_, _++_}
-use mathlib.Core.Bool.{Bool, true, cond}
+use mathlib.Core.Bool.{Bool, true, cond, not}
 use mathlib.Core.Option.{Option, none, some}
 use lib.ListN.{length, getD}
 use lib.Dec.{eqb}
 use Rattle.steps.specs.declared.network_info.NetworkInfo.{NetworkInfo}
-use Rattle.steps.specs.Network.{Network, numCorrect}
+use Rattle.steps.specs.Network.{Network, isValidator, numCorrect}
 use Rattle.steps.specs.Answers.{Rec, Tape}
 use Rattle.steps.specs.Steps.{Entry, Item, faults, outputs}
 use Rattle.steps.specs.Taken.{orElse, isThere, isTrue, firstTaken, ofValue, ofDecision, onesFrom, firstDecrypted, thirteensIn}
@@ -44,8 +44,8 @@ shareOf p (DecryptionShare share) = some p
 
 -- v, d and t: the values, decisions and decrypted plaintexts taken so far, by proposer
 module _ (Holds : NetworkInfo → SubsetHandlingStrategy → Bool → List ℕ → (ℕ → Option ℕ) → (ℕ → Option ℕ) → (ℕ → Option ℕ) → Type 0) where
-  -- a call read from ws to r and left the words w; `who` is the proposer that a 12 concerned before it
-  pub record Told (net : NetworkInfo) (strategy : SubsetHandlingStrategy) (encrypted : Bool) (v d t : ℕ → Option ℕ) (who : Option ℕ) (ws : List Rec) (w : List ℕ) (r : List Rec) : Type 0 where
+  -- a call read from ws to r and left the words w; `who` is the proposer that a 12 concerned before it, `comes` tells whether it comes to the subset
+  pub record Told (net : NetworkInfo) (strategy : SubsetHandlingStrategy) (encrypted : Bool) (v d t : ℕ → Option ℕ) (who : Option ℕ) (comes : Bool) (ws : List Rec) (w : List ℕ) (r : List Rec) : Type 0 where
     pub v′ : ℕ → Option ℕ
     pub d′ : ℕ → Option ℕ
     pub t′ : ℕ → Option ℕ
@@ -57,7 +57,7 @@ module _ (Holds : NetworkInfo → SubsetHandlingStrategy → Bool → List ℕ �
     pub decision : (q : ℕ) → orElse (d q) (firstTaken ofDecision q ws) ≡ orElse (d′ q) (firstTaken ofDecision q r)
     pub text : (q : ℕ) → orElse (t q) (firstDecrypted q who ws) ≡ orElse (t′ q) (firstDecrypted q who′ r)
     pub thirteens : thirteensIn ws ≡ thirteensIn r
-    pub votes : Voted net v d ws r
+    pub votes : Voted net comes v d ws r
 
   -- an epoch that is ready
   pub record Ready (net : NetworkInfo) (encrypted : Bool) (w : List ℕ) (v d t : ℕ → Option ℕ) : Type 0 where
@@ -73,11 +73,11 @@ module _ (Holds : NetworkInfo → SubsetHandlingStrategy → Bool → List ℕ �
         → Holds net strategy encrypted (newEpoch (net .«num_nodes»)) nothing nothing nothing
     pub proposed : (net : NetworkInfo) (strategy : SubsetHandlingStrategy) (encrypted : Bool) (w : List ℕ) (v d t : ℕ → Option ℕ) (p : Tape) → Network net
         → Holds net strategy encrypted w v d t → Good (net .«num_nodes») (p .rest)
-        → After (propose net strategy encrypted w p) (λ _ w′ q. Told net strategy encrypted v d t none (p .rest) w′ (q .rest))
+        → After (propose net strategy encrypted w p) (λ _ w′ q. Told net strategy encrypted v d t none (isValidator net) (p .rest) w′ (q .rest))
     pub handled : (net : NetworkInfo) (strategy : SubsetHandlingStrategy) (encrypted : Bool) (w : List ℕ) (v d t : ℕ → Option ℕ) (p : Tape) → Network net
         → (sender proposer : ℕ) (content : MessageContent) → sender < net .«num_nodes» → proposer < net .«num_nodes»
         → Holds net strategy encrypted w v d t → Good (net .«num_nodes») (p .rest)
-        → After (handleMessageContent net strategy encrypted sender proposer content w p) (λ _ w′ q. Told net strategy encrypted v d t (shareOf proposer content) (p .rest) w′ (q .rest))
+        → After (handleMessageContent net strategy encrypted sender proposer content w p) (λ _ w′ q. Told net strategy encrypted v d t (shareOf proposer content) (not (isThere (shareOf proposer content))) (p .rest) w′ (q .rest))
     pub quietProposed : (net : NetworkInfo) (strategy : SubsetHandlingStrategy) (encrypted : Bool) (w : List ℕ) (p : Tape) → Quiet (propose net strategy encrypted w p .log)
     pub quietHandled : (net : NetworkInfo) (strategy : SubsetHandlingStrategy) (encrypted : Bool) (sender proposer : ℕ) (content : MessageContent) (w : List ℕ) (p : Tape)
         → Quiet (handleMessageContent net strategy encrypted sender proposer content w p .log)

@@ -1,6 +1,6 @@
 -- What is taken from the first answer of a chain and its parts, and what reply 5's rule says of them. Assumes nothing.
 use Prim.Native.Nat.{ℕ, zero, suc, _*_, _/_, _≤_, _<_}
-use mathlib.Core.Path.{_≡_, refl, sym, _∙_}
+use mathlib.Core.Path.{_≡_, refl, sym, ap, _∙_}
 use mathlib.Core.Logic.{_⊎_, inl, inr}
 use mathlib.Core.List.{List, [], _∷_}
 use mathlib.Core.Bool.{Bool, true, false, cond, _&&_, _||_, false≢true}
@@ -8,7 +8,7 @@ use mathlib.Core.Option.{Option, none, some}
 use native.Mathlib.Omega.{arith}
 use lib.ListN.{length, getD}
 use lib.Dec.{eqb, leb, ltb}
-use borrow.Author.Tests.{eqb-true, eqb-false, eq-eqb, leb-true, ltb-true, lt-leb}
+use borrow.Author.Tests.{eqb-true, eqb-false, ne-eqb, leb-true, ltb-true, lt-leb}
 use Rattle.steps.specs.declared.reader.Content.{Content}
 use Rattle.steps.specs.declared.reader.Output.{Output}
 use Rattle.steps.specs.declared.reader.Output.the-variants.{Missing, Value}
@@ -142,6 +142,18 @@ pub low-no-part : (lo hi : ℕ) → hi < 16 → NoPart (within lo hi)
 unfolding isPart
 low-no-part lo hi h kind e = rw (lt-leb kind hi (omega (arith, leb-true 16 kind (and-true (leb 16 kind) (leb kind 18) e .0)))) (and-no (leb lo kind))
 
+-- and so such a kind is no part's
+pub no-part : (is : ℕ → Bool) → NoPart is → (kind : ℕ) → is kind ≡ true → isPart kind ≡ false
+no-part is np kind e = go (isPart kind) refl
+  where
+    go : (x : Bool) → isPart kind ≡ x → x ≡ false
+    go true z = absurd (false≢true (sym (np kind z) ∙ e))
+    go false z = refl
+
+-- kinds that a test tells apart
+pub apart : (is : ℕ → Bool) (j k : ℕ) → is j ≡ false → is k ≡ true → eqb j k ≡ false
+apart is j k f e = ne-eqb j k (λ z. false≢true (sym f ∙ ap is z ∙ e))
+
 pub past-taken : (is : ℕ → Bool) → NoPart is → (q : ℕ) (rs : List Rec) → firstTaken is q rs ≡ firstTaken is q (pastParts rs)
 unfolding firstTaken pastParts orElse
 past-taken is np q [] = refl
@@ -151,18 +163,15 @@ past-taken is np q (r ∷ rs) = go (isPart (r .kind)) refl (past-taken is np q r
     go true e ih = rw (e, np (r .kind) e) ih
     go false e ih = rw e
 
-or-right : (x y : Bool) → y ≡ true → x || y ≡ true
-or-right true y e = refl
-or-right false y e = e
-
-pub past-asked : (kind q : ℕ) (rs : List Rec) → asked kind q (pastParts rs) ≡ true → asked kind q rs ≡ true
+-- a part answers nothing that is asked for
+pub past-asking : (kind : ℕ) → isPart kind ≡ false → (q : ℕ) (rs : List Rec) → asked kind q rs ≡ asked kind q (pastParts rs)
 unfolding asked pastParts
-past-asked kind q [] h = h
-past-asked kind q (r ∷ rs) h = go (isPart (r .kind)) refl (past-asked kind q rs) h
+past-asking kind np q [] = refl
+past-asking kind np q (r ∷ rs) = go (isPart (r .kind)) refl (past-asking kind np q rs)
   where
-    go : (x : Bool) → isPart (r .kind) ≡ x → (asked kind q (pastParts rs) ≡ true → asked kind q rs ≡ true) → asked kind q (cond (isPart (r .kind)) (pastParts rs) (r ∷ rs)) ≡ true → asked kind q (r ∷ rs) ≡ true
-    go true e ih h = or-right (eqb (r .kind) kind && eqb (r .b) q) (asked kind q rs) (ih (rw e at h))
-    go false e ih h = rw e at h
+    go : (x : Bool) → isPart (r .kind) ≡ x → asked kind q rs ≡ asked kind q (pastParts rs) → asked kind q (r ∷ rs) ≡ asked kind q (pastParts (r ∷ rs))
+    go true e ih = rw (e, ne-eqb (r .kind) kind (λ z. false≢true (sym np ∙ ap isPart (sym z) ∙ e))) ih
+    go false e ih = rw e
 
 -- a part keeps the context
 part-context : (context kind a : ℕ) → isPart kind ≡ true → contextAfter context kind a ≡ context
@@ -236,8 +245,7 @@ kind7 = record { rule = λ n context a b. refl; opens = λ context. refl }
 -- of the chain ws an answer of kind k about p was read, with its parts; its last output is o, and r is left
 pub record Heard (n k p : ℕ) (ws : List Rec) (o : Option ℕ) (r : List Rec) : Type 0 where
   pub first : (is : ℕ → Bool) → NoPart is → (q : ℕ) → firstTaken is q ws ≡ orElse (cond (is k && eqb p q) o none) (firstTaken is q r)
-  pub asks : asked k p ws ≡ true
-  pub more : (kind q : ℕ) → asked kind q r ≡ true → asked kind q ws ≡ true
+  pub asking : (kind : ℕ) → isPart kind ≡ false → (q : ℕ) → asked kind q ws ≡ ((eqb k kind && eqb p q) || asked kind q r)
   pub named : p < n
   pub bit : 4 < k → Bit o
   pub good : Good n r
@@ -252,8 +260,7 @@ heard-answer n k p r rs i g ek eb na =
     let rest : GoodFrom n k rs = rw (ek, one, i .opens (g .context)) at (g .good .1) in
     record {
       first = λ is np q. rw (ek, eb, past-taken is np q rs);
-      asks = rw (ek, eb, eq-eqb k k refl, eq-eqb p p refl);
-      more = λ kind q h. or-right (eqb (r .kind) kind && eqb (r .b) q) (asked kind q rs) (past-asked kind q rs h);
+      asking = λ kind np q. rw (ek, eb, past-asking kind np q rs);
       named = ltb-true p n (two .1);
       bit = λ h. output-bit n k rs h rest;
       good = record { context = k; good = past-good n k rs rest };

@@ -9,10 +9,10 @@ use borrow.Author.Tests.{eqb-true}
 use Rattle.steps.specs.declared.reader.Content.{Content}
 use Rattle.steps.specs.declared.reader.Output.{Output}
 use Rattle.steps.specs.declared.reader.Answer.the-variants.{Got, Refused}
-use Rattle.steps.specs.Answers.{Rec, Tape, tape, Asked, asked, askFor, ask, askAbout}
+use Rattle.steps.specs.Answers.{Rec, Tape, tape, Asked, asked as answered, askFor, ask, askAbout}
 use Rattle.steps.specs.Table.{contextAfter}
 use Rattle.steps.specs.Parts.{isPart, lastOutput, partsFrom}
-use Rattle.steps.specs.Taken.{orElse, firstTaken, concernedAfter, firstDecrypted, thirteensIn}
+use Rattle.steps.specs.Taken.{orElse, firstTaken, asked, concernedAfter, firstDecrypted, thirteensIn}
 use Rattle.steps.proofs.Laws.{and-true}
 use Rattle.steps.proofs.Chains.{GoodFrom, Good}
 use Rattle.steps.proofs.Parts.{parts-on, parts-off}
@@ -57,7 +57,7 @@ module _ (is : ℕ → Bool) where
       go [] e = rw e (past-same [])
       go (r ∷ rs) e = by (want r) refl
         where
-          by : (x : Bool) → want r ≡ x → Past is (r ∷ rs) (cond {A = Asked} x (asked (Got (r .a) (r .b)) (tape (r .next) rs)) (asked Refused p) .tape .rest)
+          by : (x : Bool) → want r ≡ x → Past is (r ∷ rs) (cond {A = Asked} x (answered (Got (r .a) (r .b)) (tape (r .next) rs)) (answered Refused p) .tape .rest)
           by true t = past-one r rs (f r t)
           by false t = rw e (past-same (r ∷ rs))
 
@@ -93,6 +93,14 @@ module _ (is : ℕ → Bool) where
 
   pub past-first : (of : ℕ → Bool) → Others of → {ws r : List Rec} → Past is ws r → (q : ℕ) → firstTaken of q ws ≡ firstTaken of q r
   past-first of f {ws} {r} p q = rw (p .rests) (first-on of f q (p .read) r (p .kinds))
+
+  asked-on : (kind : ℕ) → Others (λ k. eqb k kind) → (q : ℕ) (l r : List Rec) → OfKinds is l → asked kind q (l ++ r) ≡ asked kind q r
+  unfolding OfKinds asked
+  asked-on kind f q [] r k = refl
+  asked-on kind f q (x ∷ xs) r k = rw (f (x .kind) (k .0)) (asked-on kind f q xs r (k .1))
+
+  pub past-asked : (kind : ℕ) → Others (λ k. eqb k kind) → {ws r : List Rec} → Past is ws r → (q : ℕ) → asked kind q ws ≡ asked kind q r
+  past-asked kind f {ws} {r} p q = rw (p .rests) (asked-on kind f q (p .read) r (p .kinds))
 
   thirteens-on : Others (λ k. eqb k 13) → (l r : List Rec) → OfKinds is l → thirteensIn (l ++ r) ≡ thirteensIn r
   unfolding OfKinds thirteensIn

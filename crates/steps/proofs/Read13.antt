@@ -2,7 +2,7 @@
 use Prim.Native.Nat.{ℕ}
 use mathlib.Core.Path.{_≡_, refl, _∙_}
 use mathlib.Core.List.{List, [], _∷_, _++_}
-use mathlib.Core.Bool.{Bool, true, false, cond, _&&_, _||_}
+use mathlib.Core.Bool.{Bool, true, false, cond, _&&_}
 use mathlib.Core.Option.{Option}
 use lib.Dec.{eqb}
 use borrow.Author.Tests.{eqb-true}
@@ -12,7 +12,7 @@ use Rattle.steps.specs.Steps.{Entry, message, fault, output, faults, out
 use Rattle.steps.specs.Runs.{Verdict, going, refused, failed, Run, before, onwardAs, onward, heardAs, heard, inside}
 use Rattle.steps.specs.Taken.{orElse, firstTaken, ofValue, ofDecision, asked, concernedAfter, firstDecrypted, thirteensIn}
 use Rattle.steps.proofs.Laws.{and-true}
-use Rattle.steps.proofs.Chains.{Good, GoodFrom}
+use Rattle.steps.proofs.Chains.{Good, GoodFrom, apart}
 
 -- WHAT A RUN GIVES: of its value, state, tape and log
 module _ {S A : Type 0} where
@@ -98,12 +98,12 @@ pub record Neither (ws r : List Rec) : Type 0 where
   pub value : (q : ℕ) → firstTaken ofValue q ws ≡ firstTaken ofValue q r
   pub decision : (q : ℕ) → firstTaken ofDecision q ws ≡ firstTaken ofDecision q r
   pub text : (q : ℕ) (who : Option ℕ) → firstDecrypted q who ws ≡ firstDecrypted q who r
-  -- nor a decision by a 5 or 6, and what is asked for in r is asked for in ws
+  -- nor a decision by a 5 or 6, and of the subset's kinds nothing is asked for
   pub early : (q : ℕ) → firstTaken (within 5 6) q ws ≡ firstTaken (within 5 6) q r
-  pub asks : (kind q : ℕ) → asked kind q r ≡ true → asked kind q ws ≡ true
+  pub asks : (kind : ℕ) → within 3 7 kind ≡ true → (q : ℕ) → asked kind q ws ≡ asked kind q r
 
 pub neither : (ws : List Rec) → Neither ws ws
-neither ws = record { value = λ q. refl; decision = λ q. refl; text = λ q who. refl; early = λ q. refl; asks = λ kind q e. e }
+neither ws = record { value = λ q. refl; decision = λ q. refl; text = λ q who. refl; early = λ q. refl; asks = λ kind e q. refl }
 
 pub neither-then : {ws r z : List Rec} → Neither ws r → Neither r z → Neither ws z
 neither-then a b = record {
@@ -111,12 +111,8 @@ neither-then a b = record {
   decision = λ q. a .decision q ∙ b .decision q;
   text = λ q who. a .text q who ∙ b .text q who;
   early = λ q. a .early q ∙ b .early q;
-  asks = λ kind q e. a .asks kind q (b .asks kind q e);
+  asks = λ kind e q. a .asks kind e q ∙ b .asks kind e q;
 }
-
-or-right : (x y : Bool) → y ≡ true → x || y ≡ true
-or-right true y e = refl
-or-right false y e = e
 
 module _ (r : Rec) (rs : List Rec) where
   pub neither-1 : r .kind ≡ 1 → Neither (r ∷ rs) rs
@@ -126,7 +122,7 @@ module _ (r : Rec) (rs : List Rec) where
     decision = λ q. rw e;
     text = λ q who. rw e;
     early = λ q. rw e;
-    asks = λ kind q h. or-right (eqb (r .kind) kind && eqb (r .b) q) (asked kind q rs) h;
+    asks = λ kind k q. rw (e, apart (within 3 7) 1 kind refl k);
   }
 
   pub neither-13 : r .kind ≡ 13 → Neither (r ∷ rs) rs
@@ -136,7 +132,7 @@ module _ (r : Rec) (rs : List Rec) where
     decision = λ q. rw e;
     text = λ q who. rw e;
     early = λ q. rw e;
-    asks = λ kind q h. or-right (eqb (r .kind) kind && eqb (r .b) q) (asked kind q rs) h;
+    asks = λ kind k q. rw (e, apart (within 3 7) 13 kind refl k);
   }
 
   pub thirteens-1 : r .kind ≡ 1 → thirteensIn (r ∷ rs) ≡ thirteensIn rs

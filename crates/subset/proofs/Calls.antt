@@ -1,31 +1,34 @@
 -- What a call of the subset does to what was taken, which votes it asks for, and when it is done. Assumes nothing.
 use Prim.Native.Nat.{ℕ, zero, suc, _+_, _≤_, _<_}
 use mathlib.Core.Path.{_≡_, refl, sym, ap, _∙_}
+use mathlib.Core.Logic.{_≢_, _⊎_, inl, inr}
 use mathlib.Core.List.{List}
-use mathlib.Core.Bool.{Bool, true, false, cond, _&&_, false≢true}
+use mathlib.Core.Bool.{Bool, true, false, cond, _&&_, _||_, not, false≢true}
 use mathlib.Core.Option.{Option, none, some}
 use native.Mathlib.Omega.{arith}
 use lib.ListN.{getD, set, length-set}
 use lib.Seq.{getD-set-same, getD-set-other}
 use lib.Dec.{eqb, ltb}
-use borrow.Author.Tests.{eqb-true, eqb-false, eq-eqb, ltb-true, ltb-false, le-leb, lt-leb}
+use borrow.Author.Tests.{eqb-true, eqb-false, ne-eqb, ltb-true, ltb-false, le-leb, lt-leb}
 use Rattle.steps.specs.declared.reader.Content.the-variants.{Broadcast, Agreement}
 use Rattle.steps.specs.declared.network_info.NetworkInfo.{NetworkInfo}
 use Rattle.steps.specs.Network.{isValidator, numCorrect}
 use Rattle.steps.specs.Answers.{Rec, Tape}
 use Rattle.steps.specs.Table.{within}
-use Rattle.steps.specs.Taken.{orElse, firstTaken, ofValue, ofDecision, asked, onesFrom}
+use Rattle.steps.specs.Parts.{isPart}
+use Rattle.steps.specs.Taken.{orElse, isThere, firstTaken, ofValue, ofDecision, asked, onesFrom}
 use Rattle.steps.specs.Runs.{going, Run, ends, inside, onward}
-use Rattle.steps.proofs.Chains.{Good, Instance, bit-or, low-no-part, orElse-none, kind3, kind4, kind5, kind7}
+use Rattle.steps.proofs.Chains.{Good, Instance, bit-or, low-no-part, no-part, kind3, kind4, kind5, kind7}
 use Rattle.subset.specs.declared.ProposalState.{ProposalState}
 use Rattle.subset.specs.Words.{decidedAt, countAt, proposalAt, valueAt, arrivalAt, loadProposal, storeProposal}
 use Rattle.subset.specs.Proposal.{asksAgreement, asksBroadcast, instanceAnswer, handleAgreement, handleBroadcast}
 use Rattle.subset.specs.Subset.{allComplete, contributed, atProposal, broadcastAt, agreementAt, voteFrom, votes, tryOutput, propose, handleMessage}
-use Rattle.subset.specs.Rule.{settledFrom, isOver, SubsetCall, proposing, broadcasting, agreeing, callSubset}
-use Rattle.subset.proofs.After.{After, after-map, after-cond, after-onward, after-inside}
+use Rattle.subset.specs.Rule.{settledFrom, isOver, SubsetCall, proposing, broadcasting, agreeing, callSubset, speaks}
+use Rattle.subset.proofs.After.{After, after-map, after-onward, after-inside}
 use Rattle.subset.proofs.Proposals.{stateOf, outputOf, instance-ok, Agreed, agreement-ok, Went, went-agreed, Broadcasts, broadcast-ok}
 use Rattle.subset.proofs.Held.{Held, held-move}
-use Rattle.subset.proofs.Taken.{put-same, put-other, more, grown-more, link-more, Linked, linked-same, linked-then, ones-grow, over-grows, ones-one, ones-same, accepted-ones, complete-settled}
+use Rattle.subset.proofs.Taken.{put-same, put-other, more, grown-more, link-more, Linked, linked-same, linked-then, ones-grow, over-grows, over-decided, accepted-ones, complete-settled}
+use Rattle.subset.proofs.Votes.{and-no, and-yes, or-assoc, or-cases, or-no, Still, still-same, still-then, still-vote, untold-same, Opened, Voted, opened-none, opened-after, voted-still}
 
 -- of the contributions some are old: they have been taken out of the list
 module _ (old : ℕ → Bool) where
@@ -38,11 +41,8 @@ module _ (old : ℕ → Bool) where
     pub decided : getD w′ decidedAt 0 ≡ getD w decidedAt 0
     pub linked : Linked v d v′ d′ ws r
     pub early : (q : ℕ) → orElse (d q) (firstTaken (within 5 6) q ws) ≡ orElse (d′ q) (firstTaken (within 5 6) q r)
-    pub vote : (q x : ℕ) → v q ≡ none → d q ≡ none → v′ q ≡ some x → asked 6 q ws ≡ true
-    pub one : onesFrom d′ n 0 ≤ onesFrom d n 0 + 1
-
-  none-some : {A : Type 0} (o : Option ℕ) (x : ℕ) → o ≡ none → o ≡ some x → A
-  none-some o x e f = let z : _≡_ {A = ℕ} 0 1 = cc in absurd (omega arith)
+    pub asks : Opened v d ws r
+    pub zero : (q : ℕ) → asked 7 q ws ≡ asked 7 q r
 
   begun-still : (n : ℕ) (v d : ℕ → Option ℕ) (w : List ℕ) (ws : List Rec) → Held old n w v d → Good n ws → Begun n v d w ws w ws
   begun-still n v d w ws h g = record {
@@ -53,13 +53,33 @@ module _ (old : ℕ → Bool) where
     decided = refl;
     linked = linked-same v d ws;
     early = λ q. refl;
-    vote = λ q x e f k. none-some (v q) x e k;
-    one = omega arith;
+    asks = opened-none v d ws;
+    zero = λ q. refl;
   }
+
+  -- what was asked about p
+  opened-went : (n p : ℕ) (v d : ℕ → Option ℕ) (ws : List Rec) (o : Option ℕ) (s : ProposalState) (r : List Rec) → Went n p (v p) (d p) ws o s r → Opened v d ws r
+  unfolding isThere isPart
+  opened-went n p v d ws o s r t = record {
+    came = λ q. cond (eqb p q) (t .took ofValue) none;
+    value = λ q. t .first ofValue (low-no-part 3 4 (omega arith)) q;
+    one = λ q. t .asking 6 refl q ∙ ap (λ x. x || asked 6 q r) (votes1 q (eqb p q) refl);
+    broadcast = λ k q e a. by (λ i. (v i ≡ none) × (d i ≢ some 0)) q (t .asks k) (asked k q r) (eqb p q) refl (or-cases (t .asks k && eqb p q) (asked k q r) (sym (t .asking k (no-part ofValue (low-no-part 3 4 (omega arith)) k e) q) ∙ a)) (t .broadcast k e);
+    agreement = λ q a. by (λ i. d i ≡ none) q (t .asks 5) (asked 5 q r) (eqb p q) refl (or-cases (t .asks 5 && eqb p q) (asked 5 q r) (sym (t .asking 5 refl q) ∙ a)) (t .agreement);
+  }
+    where
+      votes1 : (q : ℕ) (y : Bool) → eqb p q ≡ y → t .asks 6 && y ≡ (isThere (cond y (t .took ofValue) none) && not (isThere (d q)))
+      votes1 q true y = rw (← eqb-true p q y, and-yes (t .asks 6)) (t .six)
+      votes1 q false y = and-no (t .asks 6)
+
+      by : (P : ℕ → Type 0) (q : ℕ) (x z y : Bool) → eqb p q ≡ y → (x && y ≡ true) ⊎ (z ≡ true) → (x ≡ true → P p) → P q ⊎ (z ≡ true)
+      by P q x z true e (inl a) f = inl (rw (← eqb-true p q e) (f (sym (and-yes x) ∙ a)))
+      by P q x z false e (inl a) f = absurd (false≢true (sym (and-no x) ∙ a))
+      by P q x z y e (inr b) f = inr b
 
   begun-went : (n p : ℕ) (v d : ℕ → Option ℕ) (w : List ℕ) (ws : List Rec) (o : Option ℕ) (s : ProposalState) (r : List Rec)
       → Held old n w v d → outputOf (v p) (d p) ≡ none → Went n p (v p) (d p) ws o s r → Begun n v d w ws (contributed n (storeProposal n w p s) p o) r
-  unfolding orElse
+  unfolding orElse isPart
   begun-went n p v d w ws o s r h e t =
       let v₁ = more v p (t .took ofValue) in
       let d₁ = more d p (t .took ofDecision) in
@@ -78,23 +98,14 @@ module _ (old : ℕ → Bool) where
           decision = λ q. ap (orElse (d q)) (t .first ofDecision (low-no-part 5 7 (omega arith)) q) ∙ link-more d p q (t .took ofDecision) (firstTaken ofDecision q r);
           grownV = grown-more v p (t .took ofValue);
           grownD = grown-more d p (t .took ofDecision);
-          asks = t .more;
         };
         early = λ q.
             ap (orElse (d q)) (t .first (within 5 6) (low-no-part 5 6 (omega arith)) q)
             ∙ ap (λ x. orElse (d q) (orElse (cond (eqb p q) x none) (firstTaken (within 5 6) q r))) (t .early)
             ∙ link-more d p q (t .took ofDecision) (firstTaken (within 5 6) q r);
-        vote = λ q x a b c. votes1 q x a b c (eqb p q) refl;
-        one = ones-one d p (t .took ofDecision) n 0;
+        asks = opened-went n p v d ws o s r t;
+        zero = λ q. t .asking 7 refl q ∙ rw (t .seven);
       }
-    where
-      votes1 : (q x : ℕ) → v q ≡ none → d q ≡ none → more v p (t .took ofValue) q ≡ some x → (y : Bool) → eqb p q ≡ y → asked 6 q ws ≡ true
-      votes1 q x a b c true y =
-          let z : p ≡ q = eqb-true p q y in
-          let ap′ : v p ≡ none = rw z a in
-          let cp : orElse (v p) (t .took ofValue) ≡ some x = rw y at c in
-          rw (← z) (t .vote x ap′ (rw z b) (rw ap′ at cp))
-      votes1 q x a b c false y = none-some (v q) x a (rw y at c)
 
   undecided-silent : (v : Option ℕ) → outputOf v none ≡ none
   undecided-silent none = refl
@@ -107,13 +118,13 @@ module _ (old : ℕ → Bool) where
     good : Good n r
     decided : getD w′ decidedAt 0 ≡ getD w decidedAt 0
     linked : Linked v d v d′ ws r
-    early : (q : ℕ) → firstTaken (within 5 6) q ws ≡ firstTaken (within 5 6) q r
+    still : Still ws r
     others : (q : ℕ) → (q ≡ p → ⊥) → d′ q ≡ d q
-    asks : d p ≡ none → asked 7 p ws ≡ true
+    asks : (q : ℕ) → asked 7 q ws ≡ ((eqb p q && not (isThere (d p))) || asked 7 q r)
 
   one-agreed : (n p : ℕ) (v d : ℕ → Option ℕ) (w : List ℕ) (ws : List Rec) (o : Option ℕ) (s : ProposalState) (r : List Rec)
       → Held old n w v d → d p ≡ none → Agreed n 7 p (v p) ws o s r → One n p v d w ws (contributed n (storeProposal n w p s) p o) r
-  unfolding orElse
+  unfolding orElse isThere isPart
   one-agreed n p v d w ws o s r h e a =
       let d₁ = more d p (a .answer) in
       let dp : d₁ p ≡ a .answer = put-same d p _ ∙ rw e in
@@ -129,11 +140,10 @@ module _ (old : ℕ → Bool) where
           decision = λ q. ap (orElse (d q)) (a .heard .first ofDecision (low-no-part 5 7 (omega arith)) q) ∙ link-more d p q (a .answer) (firstTaken ofDecision q r);
           grownV = λ q x z. z;
           grownD = grown-more d p (a .answer);
-          asks = a .heard .more;
         };
-        early = λ q. a .heard .first (within 5 6) (low-no-part 5 6 (omega arith)) q;
+        still = still-vote n p ws (a .answer) r (a .heard);
         others = λ q ne. put-other d p _ q ne;
-        asks = λ z. a .heard .asks;
+        asks = λ q. a .heard .asking 7 refl q ∙ rw (e, and-yes (eqb p q));
       }
 
   -- THE ROUND of votes 0, for the m proposers from i on
@@ -143,8 +153,13 @@ module _ (old : ℕ → Bool) where
     pub good : Good n r
     pub decided : getD w′ decidedAt 0 ≡ getD w decidedAt 0
     pub linked : Linked v d v d′ ws r
-    pub early : (q : ℕ) → firstTaken (within 5 6) q ws ≡ firstTaken (within 5 6) q r
-    pub asks : (q : ℕ) → i ≤ q → q < i + m → d q ≡ none → asked 7 q ws ≡ true
+    pub still : Still ws r
+    -- the votes
+    pub votes : ℕ → Bool
+    pub asks : (q : ℕ) → asked 7 q ws ≡ (votes q || asked 7 q r)
+    pub among : (q : ℕ) → i ≤ q → q < i + m → votes q ≡ not (isThere (d q))
+    pub below : (q : ℕ) → q < i → votes q ≡ false
+    pub beyond : (q : ℕ) → i + m ≤ q → votes q ≡ false
 
   round-none : (n i : ℕ) (v d : ℕ → Option ℕ) (w : List ℕ) (ws : List Rec) → Held old n w v d → Good n ws → Round n 0 i v d w ws w ws
   round-none n i v d w ws h g = record {
@@ -153,8 +168,12 @@ module _ (old : ℕ → Bool) where
     good = g;
     decided = refl;
     linked = linked-same v d ws;
-    early = λ q. refl;
-    asks = λ q a b. absurd (omega arith);
+    still = still-same ws;
+    votes = λ q. false;
+    asks = λ q. refl;
+    among = λ q a b. absurd (omega arith);
+    below = λ q a. refl;
+    beyond = λ q a. refl;
   }
 
   round-more : (n m i : ℕ) (v d : ℕ → Option ℕ) (w w₁ w₂ : List ℕ) (ws r z : List Rec) (a : One n i v d w ws w₁ r) → Round n m (i + 1) v (a .d′) w₁ r w₂ z → Round n (suc m) i v d w ws w₂ z
@@ -164,15 +183,21 @@ module _ (old : ℕ → Bool) where
     good = b .good;
     decided = b .decided ∙ a .decided;
     linked = linked-then (a .linked) (b .linked);
-    early = λ q. a .early q ∙ b .early q;
-    asks = λ q l h e. go q l h e (eqb q i) refl;
+    still = still-then (a .still) (b .still);
+    votes = λ q. (eqb i q && not (isThere (d i))) || b .votes q;
+    asks = λ q. a .asks q ∙ ap (λ x. (eqb i q && not (isThere (d i))) || x) (b .asks q) ∙ or-assoc (eqb i q && not (isThere (d i))) (b .votes q) (asked 7 q z);
+    among = λ q l h. go q l h (eqb i q) refl;
+    below = λ q l. rw (ne-eqb i q (λ e. omega arith)) (b .below q (omega arith));
+    beyond = λ q l. rw (ne-eqb i q (λ e. omega arith)) (b .beyond q (omega arith));
   }
     where
-      go : (q : ℕ) → i ≤ q → q < i + suc m → d q ≡ none → (x : Bool) → eqb q i ≡ x → asked 7 q ws ≡ true
-      go q l h e true x = let y : q ≡ i = eqb-true q i x in rw y (a .asks (rw y at e))
-      go q l h e false x =
-          let ne : q ≡ i → ⊥ = eqb-false q i x in
-          a .linked .asks 7 q (b .asks q (omega arith) (omega arith) (a .others q ne ∙ e))
+      go : (q : ℕ) → i ≤ q → q < i + suc m → (x : Bool) → eqb i q ≡ x → (x && not (isThere (d i))) || b .votes q ≡ not (isThere (d q))
+      go q l h true x =
+          let y : i ≡ q = eqb-true i q x in
+          rw (y, b .below q (omega arith)) (or-no (not (isThere (d q))))
+      go q l h false x =
+          let ne : i ≡ q → ⊥ = eqb-false i q x in
+          b .among q (omega arith) (omega arith) ∙ ap (λ o. not (isThere o)) (a .others q (λ e. ne (sym e)))
 
   -- a proposal that asks has not been output
   broadcast-silent : (v d : Option ℕ) → asksBroadcast (stateOf v d) ≡ true → outputOf v d ≡ none
@@ -191,10 +216,11 @@ module _ (old : ℕ → Bool) where
   agreement-undecided none (some (suc d)) e = absurd (false≢true e)
   agreement-undecided (some v) (some (suc d)) e = absurd (false≢true e)
 
-  undecided-asks : (v : Option ℕ) → asksAgreement (stateOf v none) ≡ true
-  unfolding asksAgreement
-  undecided-asks none = refl
-  undecided-asks (some v) = refl
+  decided-there : (v d : Option ℕ) → asksAgreement (stateOf v d) ≡ false → isThere d ≡ true
+  unfolding asksAgreement isThere
+  decided-there none none e = absurd (false≢true (sym e))
+  decided-there (some v) none e = absurd (false≢true (sym e))
+  decided-there v (some d) e = refl
 
   module _ (net : NetworkInfo) (error : ℕ) where
     abbrev n : ℕ
@@ -277,9 +303,9 @@ module _ (old : ℕ → Bool) where
             good = g;
             decided = refl;
             linked = linked-same v d (u .rest);
-            early = λ q. refl;
+            still = still-same (u .rest);
             others = λ q ne. refl;
-            asks = λ e. absurd (false≢true (sym a ∙ ap asksAgreement (h .load p inside ∙ ap (λ x. stateOf (v p) x) e) ∙ undecided-asks (v p)));
+            asks = λ q. rw (decided-there (v p) (d p) (rw (h .load p inside) at a), and-no (eqb p q));
           }
 
     votes-from : (m i : ℕ) (w : List ℕ) (v d : ℕ → Option ℕ) → Held old n w v d → (u : Tape) → Good n (u .rest) → i + m ≤ n
@@ -293,14 +319,6 @@ module _ (old : ℕ → Bool) where
         round-more n m i v d w w₁ w₂ (u .rest) (z .rest) (y .rest) a b)))
 
   -- DONE, or not
-  and-no : (x : Bool) → x && false ≡ false
-  and-no true = refl
-  and-no false = refl
-
-  and-yes : (x : Bool) → x && true ≡ x
-  and-yes true = refl
-  and-yes false = refl
-
   module _ (net : NetworkInfo) (v d : ℕ → Option ℕ) where
     over-few : onesFrom d (net .«num_nodes») 0 < numCorrect net → isOver net v d ≡ false
     unfolding isOver
@@ -340,8 +358,8 @@ module _ (old : ℕ → Bool) where
     pub decided : getD w′ decidedAt 0 ≡ cond (isOver net v d′) 1 0
     pub says : over ≡ false → done ≡ isOver net v d′
     pub linked : Linked v d v d′ ws r
-    pub early : (q : ℕ) → firstTaken (within 5 6) q ws ≡ firstTaken (within 5 6) q r
-    pub asks : over ≡ false → onesFrom d (net .«num_nodes») 0 ≡ numCorrect net → (q : ℕ) → q < net .«num_nodes» → d q ≡ none → asked 7 q ws ≡ true
+    pub still : Still ws r
+    pub asks : (q : ℕ) → q < net .«num_nodes» → asked 7 q ws ≡ ((eqb (onesFrom d (net .«num_nodes») 0) (numCorrect net) && not (isThere (d q))) || asked 7 q r)
 
   module _ (net : NetworkInfo) (error : ℕ) (w : List ℕ) (v d : ℕ → Option ℕ) (h : Held old (net .«num_nodes») w v d) (u : Tape) (g : Good (net .«num_nodes») (u .rest)) where
     abbrev m : ℕ
@@ -369,11 +387,16 @@ module _ (old : ℕ → Bool) where
       decided = e ∙ sym (rw (o refl));
       says = λ f. absurd (false≢true (sym f));
       linked = linked-same v d (u .rest);
-      early = λ q. refl;
-      asks = λ f. absurd (false≢true (sym f));
+      still = still-same (u .rest);
+      asks = λ q l. rw (over-decided net v d (o refl) q l, and-no (eqb (onesFrom d m 0) (numCorrect net)));
     })
     try-ok false o e = rw (e, accepted-ones old m w v d h m 0 (omega arith)) (go (ltb (onesFrom d m 0) (numCorrect net)) refl)
       where
+        -- the votes of a round that takes place, or not
+        cast : (x : Bool) (w′ : List ℕ) (r : List Rec) (b : Round m (cond x m 0) 0 v d w (u .rest) w′ r) (q : ℕ) → q < m → b .votes q ≡ (x && not (isThere (d q)))
+        cast true w′ r b q l = b .among q (omega arith) (omega arith)
+        cast false w′ r b q l = b .beyond q (omega arith)
+
         finished : numCorrect net ≤ onesFrom d m 0 → (w′ : List ℕ) (z : Tape) → Round m (cond (eqb (onesFrom d m 0) (numCorrect net)) m 0) 0 v d w (u .rest) w′ (z .rest)
             → After (finish w′ z) (λ done w″ y. Tried net false v d (u .rest) done w″ (y .rest))
         finished many w′ z b = rw (complete-settled old m w′ v (b .d′) (b .held) m 0 (omega arith)) (by (settledFrom v (b .d′) m 0) refl)
@@ -381,8 +404,8 @@ module _ (old : ℕ → Bool) where
             is-over : isOver net v (b .d′) ≡ settledFrom v (b .d′) m 0
             is-over = over-many net v (b .d′) (omega (arith, ones-grow v d v (b .d′) (b .linked .grownV) (b .linked .grownD) m 0))
 
-            asks : onesFrom d m 0 ≡ numCorrect net → (q : ℕ) → q < m → d q ≡ none → asked 7 q (u .rest) ≡ true
-            asks k q l n = b .asks q (omega arith) (rw (eq-eqb (onesFrom d m 0) (numCorrect net) k) (omega arith)) n
+            asks : (q : ℕ) → q < m → asked 7 q (u .rest) ≡ ((eqb (onesFrom d m 0) (numCorrect net) && not (isThere (d q))) || asked 7 q (z .rest))
+            asks q l = b .asks q ∙ ap (λ x. x || asked 7 q (z .rest)) (cast (eqb (onesFrom d m 0) (numCorrect net)) w′ (z .rest) b q l)
 
             by : (x : Bool) → settledFrom v (b .d′) m 0 ≡ x → After (cond x (ends (going true) (set w′ decidedAt 1) z) (ends (going false) w′ z)) (λ done w″ y. Tried net false v d (u .rest) done w″ (y .rest))
             by true x = record {
@@ -391,8 +414,8 @@ module _ (old : ℕ → Bool) where
               decided = getD-set-same w′ decidedAt 1 0 (omega (arith, b .held .size)) ∙ sym (rw (is-over, x));
               says = λ f. sym (is-over ∙ x);
               linked = b .linked;
-              early = b .early;
-              asks = λ f. asks;
+              still = b .still;
+              asks = asks;
             }
             by false x = record {
               d′ = b .d′;
@@ -400,8 +423,8 @@ module _ (old : ℕ → Bool) where
               decided = b .decided ∙ e ∙ sym (rw (is-over, x));
               says = λ f. sym (is-over ∙ x);
               linked = b .linked;
-              early = b .early;
-              asks = λ f. asks;
+              still = b .still;
+              asks = asks;
             }
 
         go : (x : Bool) → ltb (onesFrom d m 0) (numCorrect net) ≡ x
@@ -412,15 +435,15 @@ module _ (old : ℕ → Bool) where
           decided = e ∙ sym (rw (over-few net v d (ltb-true _ _ x)));
           says = λ f. sym (over-few net v d (ltb-true _ _ x));
           linked = linked-same v d (u .rest);
-          early = λ q. refl;
-          asks = λ f k. absurd (omega (arith, ltb-true (onesFrom d m 0) (numCorrect net) x));
+          still = still-same (u .rest);
+          asks = λ q l. rw (ne-eqb (onesFrom d m 0) (numCorrect net) (λ e. omega (arith, ltb-true (onesFrom d m 0) (numCorrect net) x)));
         }
         go false x =
             after-onward (votes net error w u) _ _
             (after-map (votes net error w u) _ _ votes-ok (λ _ w′ z b. finished (ltb-false (onesFrom d m 0) (numCorrect net) x) w′ z b))
 
-  -- A WHOLE CALL
-  pub record Called (net : NetworkInfo) (v d : ℕ → Option ℕ) (ws : List Rec) (done : Bool) (w′ : List ℕ) (r : List Rec) : Type 0 where
+  -- A WHOLE CALL, which comes to the subset or not
+  pub record Called (net : NetworkInfo) (comes : Bool) (v d : ℕ → Option ℕ) (ws : List Rec) (done : Bool) (w′ : List ℕ) (r : List Rec) : Type 0 where
     pub v′ : ℕ → Option ℕ
     pub d′ : ℕ → Option ℕ
     pub held : Held old (net .«num_nodes») w′ v′ d′
@@ -428,14 +451,10 @@ module _ (old : ℕ → Bool) where
     -- a call that begins before the subset is over says whether it is
     pub says : isOver net v d ≡ false → done ≡ isOver net v′ d′
     pub linked : Linked v d v′ d′ ws r
-    pub voteOne : (q x : ℕ) → v q ≡ none → d q ≡ none → v′ q ≡ some x → asked 6 q ws ≡ true
-    pub voteZero : ((p : ℕ) → firstTaken (within 5 6) p r ≡ none) → (q : ℕ) → q < net .«num_nodes» → onesFrom d (net .«num_nodes») 0 < numCorrect net
-        → numCorrect net ≤ onesFrom (λ p. orElse (d p) (firstTaken (within 5 6) p ws)) (net .«num_nodes») 0
-        → orElse (d q) (firstTaken (within 5 6) q ws) ≡ none → asked 7 q ws ≡ true
+    pub votes : Voted net comes v d ws r
 
   called-then : (net : NetworkInfo) (v d : ℕ → Option ℕ) (w w₁ w₂ : List ℕ) (done : Bool) (ws r z : List Rec)
-      (a : Begun (net .«num_nodes») v d w ws w₁ r) → Tried net (isOver net v d) (a .v′) (a .d′) r done w₂ z → Called net v d ws done w₂ z
-  unfolding orElse firstTaken
+      (a : Begun (net .«num_nodes») v d w ws w₁ r) → Tried net (isOver net v d) (a .v′) (a .d′) r done w₂ z → Called net true v d ws done w₂ z
   called-then net v d w w₁ w₂ done ws r z a b = record {
     v′ = a .v′;
     d′ = b .d′;
@@ -443,17 +462,16 @@ module _ (old : ℕ → Bool) where
     decided = b .decided;
     says = b .says;
     linked = linked-then (a .linked) (b .linked);
-    voteOne = a .vote;
-    voteZero = λ e q l few many o.
-        let n = net .«num_nodes» in
-        let before : (p : ℕ) → orElse (d p) (firstTaken (within 5 6) p ws) ≡ a .d′ p =
-        λ p. a .early p ∙ ap (orElse (a .d′ p)) (b .early p ∙ e p) ∙ orElse-none (a .d′ p) in
-        let ones : onesFrom (a .d′) n 0 ≡ numCorrect net = omega (arith, ones-same _ (a .d′) before n 0, a .one) in
-        a .linked .asks 7 q (b .asks (over-few net v d few) ones q l (sym (before q) ∙ o));
+    votes = record {
+      opened = opened-after v d (a .asks) (b .still);
+      before = a .d′;
+      early = λ q. a .early q ∙ ap (orElse (a .d′ q)) (b .still .early q);
+      zero = λ q l. a .zero q ∙ b .asks q l;
+    };
   }
 
-  called-still : (net : NetworkInfo) (v d : ℕ → Option ℕ) (w : List ℕ) (ws : List Rec) → Held old (net .«num_nodes») w v d → getD w decidedAt 0 ≡ cond (isOver net v d) 1 0 → Called net v d ws false w ws
-  unfolding orElse firstTaken
+  -- an observer's propose
+  called-still : (net : NetworkInfo) (v d : ℕ → Option ℕ) (w : List ℕ) (ws : List Rec) → Held old (net .«num_nodes») w v d → getD w decidedAt 0 ≡ cond (isOver net v d) 1 0 → Called net false v d ws false w ws
   called-still net v d w ws h e = record {
     v′ = v;
     d′ = d;
@@ -461,16 +479,12 @@ module _ (old : ℕ → Bool) where
     decided = e;
     says = λ f. sym f;
     linked = linked-same v d ws;
-    voteOne = λ q x a b c. none-some (v q) x a c;
-    voteZero = λ z q l few many o.
-        let n = net .«num_nodes» in
-        let before : (p : ℕ) → orElse (d p) (firstTaken (within 5 6) p ws) ≡ d p = λ p. ap (orElse (d p)) (z p) ∙ orElse-none (d p) in
-        absurd (omega (arith, ones-same _ d before n 0));
+    votes = voted-still net v d (untold-same ws);
   }
 
   module _ (net : NetworkInfo) (w : List ℕ) (v d : ℕ → Option ℕ) (h : Held old (net .«num_nodes») w v d) (u : Tape) (g : Good (net .«num_nodes») (u .rest))
       (e : getD w decidedAt 0 ≡ cond (isOver net v d) 1 0) where
-    ended : (error : ℕ) (w₁ : List ℕ) (z : Tape) → Begun (net .«num_nodes») v d w (u .rest) w₁ (z .rest) → After (tryOutput net error w₁ z) (λ done w′ y. Called net v d (u .rest) done w′ (y .rest))
+    ended : (error : ℕ) (w₁ : List ℕ) (z : Tape) → Begun (net .«num_nodes») v d w (u .rest) w₁ (z .rest) → After (tryOutput net error w₁ z) (λ done w′ y. Called net true v d (u .rest) done w′ (y .rest))
     ended error w₁ z a =
         after-map (tryOutput net error w₁ z) _ _
         (try-ok net error w₁ (a .v′) (a .d′) (a .held) z (a .good) (isOver net v d) (over-grows v d (a .v′) (a .d′) (a .linked .grownV) (a .linked .grownD) net) (a .decided ∙ e))
@@ -482,13 +496,15 @@ module _ (old : ℕ → Bool) where
     kinds-4 : Broadcasts 4
     kinds-4 = record { kind = kind4; value = refl; decision = refl; early = refl }
 
-    pub call-ok : (c : SubsetCall) → After (callSubset net c w u) (λ done w′ z. Called net v d (u .rest) done w′ (z .rest))
-    unfolding callSubset propose handleMessage
-    call-ok proposing =
-        after-cond (isValidator net) _ _ _
-        (after-onward (broadcastAt net 22 3 (net .«our_id») w u) _ _
-        (after-map (broadcastAt net 22 3 (net .«our_id») w u) _ _ (broadcast-at net 22 (net .«our_id») w v d h u g 3 kinds-3) (λ _ w₁ z a. ended 22 w₁ z a)))
-        (called-still net v d w (u .rest) h e)
+    pub call-ok : (c : SubsetCall) → After (callSubset net c w u) (λ done w′ z. Called net (speaks net c) v d (u .rest) done w′ (z .rest))
+    unfolding callSubset propose handleMessage speaks
+    call-ok proposing = go (isValidator net)
+      where
+        go : (x : Bool) → After (cond x (onward (broadcastAt net 22 3 (net .«our_id») w u) (λ _ w q. tryOutput net 22 w q)) (ends (going false) w u)) (λ done w′ z. Called net x v d (u .rest) done w′ (z .rest))
+        go true =
+            after-onward (broadcastAt net 22 3 (net .«our_id») w u) _ _
+            (after-map (broadcastAt net 22 3 (net .«our_id») w u) _ _ (broadcast-at net 22 (net .«our_id») w v d h u g 3 kinds-3) (λ _ w₁ z a. ended 22 w₁ z a))
+        go false = called-still net v d w (u .rest) h e
     call-ok (broadcasting p) =
         after-onward (broadcastAt net 23 4 p w u) _ _
         (after-map (broadcastAt net 23 4 p w u) _ _ (broadcast-at net 23 p w v d h u g 4 kinds-4) (λ _ w₁ z a. ended 23 w₁ z a))

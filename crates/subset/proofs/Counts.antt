@@ -51,15 +51,6 @@ module _ (f g : ℕ → Bool) where
     behind zero i h = refl
     behind (suc m) i h = rw (same i (λ e. omega arith), behind m (i + 1) (omega arith))
 
-    pub count-one : (m i : ℕ) → countIf g m i ≤ countIf f m i + 1
-    unfolding countIf
-    count-one zero i = omega arith
-    count-one (suc m) i = go (eqb i p) refl (count-one m (i + 1))
-      where
-        go : (x : Bool) → eqb i p ≡ x → countIf g m (i + 1) ≤ countIf f m (i + 1) + 1 → cond (g i) 1 0 + countIf g m (i + 1) ≤ cond (f i) 1 0 + countIf f m (i + 1) + 1
-        go true e ih = let z : i ≡ p = eqb-true i p e in omega (arith, behind m (i + 1) (omega arith), bit-le (g i))
-        go false e ih = rw (same i (eqb-false i p e)) (omega arith)
-
     pub count-add : f p ≡ false → g p ≡ true → (m i : ℕ) → i ≤ p → p < i + m → countIf g m i ≡ countIf f m i + 1
     unfolding countIf
     count-add a b zero i l h = absurd (omega arith)

@@ -1,8 +1,9 @@
 -- A proposal's state is what was taken of its value and of its decision, and each move keeps it so. Assumes nothing.
 use Prim.Native.Nat.{ℕ, zero, suc, _<_}
 use mathlib.Core.Path.{_≡_, refl, sym, ap, _∙_}
+use mathlib.Core.Logic.{_≢_}
 use mathlib.Core.List.{List, [], _∷_}
-use mathlib.Core.Bool.{Bool, true, false, cond, _&&_, false≢true}
+use mathlib.Core.Bool.{Bool, true, false, cond, _&&_, _||_, not, false≢true}
 use mathlib.Core.Option.{Option, none, some}
 use native.Mathlib.Omega.{arith}
 use lib.Dec.{eqb}
@@ -14,11 +15,11 @@ use Rattle.steps.specs.declared.reader.Output.the-variants.{Missing, Value}
 use Rattle.steps.specs.declared.reader.Answer.the-variants.{Got, Refused}
 use Rattle.steps.specs.Table.{within}
 use Rattle.steps.specs.Answers.{Rec, Tape, tape, asked, askFor, askAbout}
-use Rattle.steps.specs.Taken.{orElse, lastOutputIn, firstTaken, ofValue, ofDecision, asked as askedIn}
-use Rattle.steps.specs.Parts.{readParts, partsFrom}
+use Rattle.steps.specs.Taken.{orElse, isThere, lastOutputIn, firstTaken, ofValue, ofDecision, asked as askedIn}
+use Rattle.steps.specs.Parts.{isPart, readParts, partsFrom}
 use Rattle.steps.specs.Runs.{failed, Run, ends, heardAs, heard}
 use Rattle.steps.proofs.Laws.{and-true}
-use Rattle.steps.proofs.Chains.{orElse-none, Good, optionOf, parts-output, parts-rest, NoPart, Bit, Instance, kind6, Heard, heard-answer}
+use Rattle.steps.proofs.Chains.{orElse-none, Good, optionOf, parts-output, parts-rest, NoPart, apart, Bit, Instance, kind6, Heard, heard-answer}
 use Rattle.subset.specs.declared.ProposalState.{ProposalState}
 use Rattle.subset.specs.declared.ProposalState.the-variants.{Ongoing, HasValue, Accepted, Complete}
 use Rattle.subset.specs.Proposal.{moved, afterAgreement, afterBroadcast, asksAgreement, asksBroadcast, instanceAnswer, handleAgreement, voteTrue, afterValue, handleBroadcast}
@@ -103,15 +104,28 @@ pub record Went (n p : ℕ) (v d : Option ℕ) (ws : List Rec) (o : Option ℕ) 
   pub bit : Bit (took ofDecision)
   -- no vote 0 yet
   pub early : took (within 5 6) ≡ took ofDecision
-  -- a vote 1 for a value that has come
-  pub vote : (x : ℕ) → v ≡ none → d ≡ none → took ofValue ≡ some x → askedIn 6 p ws ≡ true
-  pub more : (kind q : ℕ) → askedIn kind q r ≡ true → askedIn kind q ws ≡ true
+  -- the kinds asked for, all about p: a vote 1 for a value that has come, no vote 0
+  pub asks : ℕ → Bool
+  pub asking : (kind : ℕ) → isPart kind ≡ false → (q : ℕ) → askedIn kind q ws ≡ ((asks kind && eqb p q) || askedIn kind q r)
+  pub six : asks 6 ≡ (isThere (took ofValue) && not (isThere d))
+  pub seven : asks 7 ≡ false
+  pub broadcast : (k : ℕ) → ofValue k ≡ true → asks k ≡ true → (v ≡ none) × (d ≢ some 0)
+  pub agreement : asks 5 ≡ true → d ≡ none
   pub named : p < n
   pub good : Good n r
 
--- no value is taken where none is told
-none-some : (x : ℕ) {A : Type 0} → _≡_ {A = Option ℕ} none (some x) → A
-none-some x e = let z : _≡_ {A = ℕ} 0 1 = cc in absurd (omega arith)
+-- of two answers about p
+two-asked : (x y z t : Bool) → (x && z) || ((y && z) || t) ≡ ((x || y) && z) || t
+two-asked true y true t = refl
+two-asked true true false t = refl
+two-asked true false false t = refl
+two-asked false y z t = refl
+
+there-zero : (d : Option ℕ) → d ≡ none → d ≢ some 0
+there-zero d e f = let z : _≡_ {A = ℕ} 0 1 = cc in omega arith
+
+one-zero : (m : ℕ) (d : Option ℕ) → d ≡ some (suc m) → d ≢ some 0
+one-zero m d e f = let z : suc m ≡ 0 = cc in omega arith
 
 by-name : (s t : Bool) (o x : Option ℕ) → orElse (cond (s && t) o none) x ≡ orElse (cond t (cond s o none) none) x
 by-name true true o x = refl
@@ -129,7 +143,7 @@ by-names false s′ false o o′ x = by-name s′ false o′ x
 
 -- a message of the agreement
 pub went-agreed : (n p : ℕ) (v : Option ℕ) (ws : List Rec) (o : Option ℕ) (s : ProposalState) (r : List Rec) → Agreed n 5 p v ws o s r → Went n p v none ws o s r
-unfolding orElse
+unfolding orElse isThere
 went-agreed n p v ws o s r a = record {
   took = λ is. cond (is 5) (a .answer) none;
   first = λ is np q. a .heard .first is np q ∙ by-name (is 5) (eqb p q) (a .answer) (firstTaken is q r);
@@ -137,8 +151,12 @@ went-agreed n p v ws o s r a = record {
   out = rw (orElse-none v) (a .out);
   bit = a .heard .bit (omega arith);
   early = refl;
-  vote = λ x e f g. none-some x g;
-  more = a .heard .more;
+  asks = eqb 5;
+  asking = a .heard .asking;
+  six = refl;
+  seven = refl;
+  broadcast = λ k e f. absurd (false≢true (sym (apart ofValue 5 k refl e) ∙ f));
+  agreement = λ e. refl;
   named = a .heard .named;
   good = a .heard .good;
 }
@@ -151,25 +169,32 @@ pub record Broadcasts (k : ℕ) : Type 0 where
   pub early : within 5 6 k ≡ false
 
 module _ (n error p k : ℕ) (i : Broadcasts k) where
+  not-agreement : (j : ℕ) → ofDecision j ≡ true → eqb k j ≡ false
+  not-agreement j e = apart ofDecision k j (i .decision) e
+
   -- nothing came, or the value of a proposal that is accepted
-  quiet : (d o : Option ℕ) (ws r : List Rec) → Heard n k p ws o r → ((x : ℕ) → d ≡ none → o ≡ some x → askedIn 6 p ws ≡ true) → Went n p none d ws (outputOf o d) (stateOf o d) r
-  unfolding orElse Bit
-  quiet d o ws r h vote = record {
+  quiet : (d o : Option ℕ) (ws r : List Rec) → d ≢ some 0 → Heard n k p ws o r → isThere o && not (isThere d) ≡ false → Went n p none d ws (outputOf o d) (stateOf o d) r
+  unfolding orElse Bit isThere
+  quiet d o ws r nz h vote = record {
     took = λ is. cond (is k) o none;
     first = λ is np q. h .first is np q ∙ by-name (is k) (eqb p q) o (firstTaken is q r);
     state = rw (i .value, i .decision, orElse-none d);
     out = rw (i .value, i .decision, orElse-none d);
     bit = rw (i .decision) tt;
     early = rw (i .early, i .decision);
-    vote = λ x e f g. vote x f (rw (i .value) at g);
-    more = h .more;
+    asks = eqb k;
+    asking = h .asking;
+    six = rw (not-agreement 6 refl, i .value) (sym vote);
+    seven = not-agreement 7 refl;
+    broadcast = λ j e f. (refl, nz);
+    agreement = λ e. absurd (false≢true (sym (not-agreement 5 refl) ∙ e));
     named = h .named;
     good = h .good;
   }
 
   -- a value and its vote 1
   voted : (x : ℕ) (ws r z : List Rec) (o : Option ℕ) (s : ProposalState) → Heard n k p ws (some x) r → Agreed n 6 p (some x) r o s z → Went n p none none ws o s z
-  unfolding orElse
+  unfolding orElse isThere
   voted x ws r z o s h a = record {
     took = λ is. orElse (cond (is k) (some x) none) (cond (is 6) (a .answer) none);
     first = λ is np q. h .first is np q ∙ ap (orElse (cond (is k && eqb p q) (some x) none)) (a .heard .first is np q) ∙ by-names (is k) (is 6) (eqb p q) (some x) (a .answer) (firstTaken is q z);
@@ -177,22 +202,27 @@ module _ (n error p k : ℕ) (i : Broadcasts k) where
     out = rw (i .value, i .decision) (a .out);
     bit = rw (i .decision) (a .heard .bit (omega arith));
     early = rw (i .early, i .decision);
-    vote = λ y e f g. h .more 6 p (a .heard .asks);
-    more = λ kind q e. h .more kind q (a .heard .more kind q e);
+    asks = λ kind. eqb k kind || eqb 6 kind;
+    asking = λ kind np q.
+        h .asking kind np q ∙ ap (λ x. (eqb k kind && eqb p q) || x) (a .heard .asking kind np q) ∙ two-asked (eqb k kind) (eqb 6 kind) (eqb p q) (askedIn kind q z);
+    six = rw (not-agreement 6 refl, i .value);
+    seven = rw (not-agreement 7 refl);
+    broadcast = λ j e f. (refl, there-zero none refl);
+    agreement = λ e. refl;
     named = h .named;
     good = a .heard .good;
   }
 
   ongoing-ok : (out : Output) (ws : List Rec) (z : Tape) → Heard n k p ws (optionOf out) (z .rest) → After (afterValue error p Ongoing out z) (λ o s y. Went n p none none ws o s (y .rest))
-  unfolding afterValue afterBroadcast voteTrue asksAgreement optionOf
-  ongoing-ok Missing ws z h = quiet none none ws (z .rest) h (λ x e f. none-some x f)
+  unfolding afterValue afterBroadcast voteTrue asksAgreement optionOf isThere
+  ongoing-ok Missing ws z h = quiet none none ws (z .rest) (there-zero none refl) h refl
   ongoing-ok (Value x) ws z h =
       after-map (handleAgreement error p 6 (HasValue x) z) _ _ (agreement-ok n error p 6 kind6 (some x) z (h .good)) (λ o s y a. voted x ws (z .rest) (y .rest) o s h a)
 
   accepted-ok : (d : ℕ) (out : Output) (ws : List Rec) (z : Tape) → Heard n k p ws (optionOf out) (z .rest) → After (afterValue error p Accepted out z) (λ o s y. Went n p none (some (suc d)) ws o s (y .rest))
-  unfolding afterValue afterBroadcast voteTrue asksAgreement optionOf
-  accepted-ok d Missing ws z h = quiet (some (suc d)) none ws (z .rest) h (λ x e f. none-some x f)
-  accepted-ok d (Value y) ws z h = quiet (some (suc d)) (some y) ws (z .rest) h (λ x e f. none-some (suc d) (sym e))
+  unfolding afterValue afterBroadcast voteTrue asksAgreement optionOf isThere
+  accepted-ok d Missing ws z h = quiet (some (suc d)) none ws (z .rest) (one-zero d (some (suc d)) refl) h refl
+  accepted-ok d (Value y) ws z h = quiet (some (suc d)) (some y) ws (z .rest) (one-zero d (some (suc d)) refl) h refl
 
   pub broadcast-ok : (v d : Option ℕ) → asksBroadcast (stateOf v d) ≡ true → (u : Tape) → Good n (u .rest)
       → After (handleBroadcast error p k (stateOf v d) u) (λ o s z. Went n p v d (u .rest) o s (z .rest))

@@ -11,20 +11,21 @@ use lib.Seq.{getD-set-other}
 use lib.Dec.{eqb}
 use borrow.Author.Tests.{eqb-true, eqb-false}
 use Rattle.steps.specs.declared.network_info.NetworkInfo.{NetworkInfo}
-use Rattle.steps.specs.Network.{Network, numCorrect}
+use Rattle.steps.specs.Network.{Network}
 use Rattle.steps.specs.Answers.{Rec, Tape, tapeOf}
-use Rattle.steps.specs.Table.{within, tableOk}
-use Rattle.steps.specs.Taken.{orElse, isThere, firstTaken, ofValue, ofDecision, asked, onesFrom}
+use Rattle.steps.specs.Table.{tableOk}
+use Rattle.steps.specs.Taken.{orElse, isThere, firstTaken, ofValue, ofDecision}
 use Rattle.steps.specs.Runs.{Verdict, going, refused, failed}
 use Rattle.steps.proofs.Laws.{and-true}
 use Rattle.steps.proofs.Chains.{orElse-none, orElse-assoc, Bit, table-good}
 use Rattle.subset.specs.Words.{newEpoch, epochLength, decidedAt, countAt, proposalAt, valueAt, arrivalAt, proposalOf, loadProposal}
-use Rattle.subset.specs.Rule.{settledFrom, isOver, SubsetEvent, answers, tablesOk, takenBy, callSubset, wordsAs, thenWords, wordsAfter, blank, Contribution, contributionsFrom, contributions, SubsetRule}
+use Rattle.subset.specs.Rule.{settledFrom, isOver, SubsetEvent, answers, tablesOk, takenBy, callSubset, wordsAs, thenWords, wordsAfter, blank, Contribution, contributionsFrom, contributions, speaks, SubsetRule}
 use Rattle.subset.proofs.After.{AfterAs}
 use Rattle.subset.proofs.Proposals.{outputOf}
 use Rattle.subset.proofs.Counts.{countIf}
 use Rattle.subset.proofs.Held.{Held, isNew}
 use Rattle.subset.proofs.Calls.{Called, call-ok}
+use Rattle.subset.proofs.Votes.{Whole, voted-whole}
 
 abbrev nothing : ℕ → Option ℕ
 nothing q = none
@@ -43,31 +44,28 @@ pub record Known (net : NetworkInfo) (w : List ℕ) (v d : ℕ → Option ℕ) :
   pub decided : getD w decidedAt 0 ≡ cond (isOver net v d) 1 0
 
 -- ONE CALL that reads its whole chain
-pub record Next (net : NetworkInfo) (v d : ℕ → Option ℕ) (ws : List Rec) (w′ : List ℕ) : Type 0 where
+pub record Next (net : NetworkInfo) (comes : Bool) (v d : ℕ → Option ℕ) (ws : List Rec) (w′ : List ℕ) : Type 0 where
   pub known : Known net w′ (after ofValue v ws) (after ofDecision d ws)
-  pub voteOne : (q x : ℕ) → v q ≡ none → d q ≡ none → firstTaken ofValue q ws ≡ some x → asked 6 q ws ≡ true
-  pub voteZero : (q : ℕ) → q < net .«num_nodes» → onesFrom d (net .«num_nodes») 0 < numCorrect net
-      → numCorrect net ≤ onesFrom (after (within 5 6) d ws) (net .«num_nodes») 0 → after (within 5 6) d ws q ≡ none → asked 7 q ws ≡ true
+  pub votes : Whole net comes v d ws
 
-next-call : (net : NetworkInfo) (v d : ℕ → Option ℕ) (ws : List Rec) (w′ : List ℕ) → (done : Bool) → Called none-old net v d ws done w′ [] → Next net v d ws w′
+next-call : (net : NetworkInfo) (comes : Bool) (v d : ℕ → Option ℕ) (ws : List Rec) (w′ : List ℕ) → (done : Bool) → Called none-old net comes v d ws done w′ [] → Next net comes v d ws w′
 unfolding orElse firstTaken
-next-call net v d ws w′ done c =
+next-call net comes v d ws w′ done c =
     let values : (q : ℕ) → c .v′ q ≡ after ofValue v ws q = λ q. sym (c .linked .value q ∙ orElse-none (c .v′ q)) in
     let decisions : (q : ℕ) → c .d′ q ≡ after ofDecision d ws q = λ q. sym (c .linked .decision q ∙ orElse-none (c .d′ q)) in
     record {
       known = subst₂ (λ (a b : ℕ → Option ℕ). Known net w′ a b) (fun-ext values) (fun-ext decisions) (record { held = c .held; decided = c .decided });
-      voteOne = λ q x e f k. c .voteOne q x e f (values q ∙ rw e k);
-      voteZero = λ q l few many e. c .voteZero (λ p. refl) q l few many e;
+      votes = voted-whole net comes v d ws (c .votes);
     }
 
-module _ (net : NetworkInfo) (v d : ℕ → Option ℕ) where
-  read-whole : (ws : List Rec) (w′ : List ℕ) (verdict : Verdict Bool) (p : Tape) (s : List ℕ) → AfterAs verdict s p (λ done t z. Called none-old net v d ws done t (z .rest))
-      → wordsAs net verdict (p .rest) s ≡ some w′ → Next net v d ws w′
+module _ (net : NetworkInfo) (comes : Bool) (v d : ℕ → Option ℕ) where
+  read-whole : (ws : List Rec) (w′ : List ℕ) (verdict : Verdict Bool) (p : Tape) (s : List ℕ) → AfterAs verdict s p (λ done t z. Called none-old net comes v d ws done t (z .rest))
+      → wordsAs net verdict (p .rest) s ≡ some w′ → Next net comes v d ws w′
   unfolding wordsAs
   read-whole ws w′ (going done) p s c e = go (p .rest) c e
     where
-      go : (l : List Rec) → Called none-old net v d ws done s l → wordsAs net (going done) l s ≡ some w′ → Next net v d ws w′
-      go [] c e = let z : s ≡ w′ = cc in next-call net v d ws w′ done (rw z at c)
+      go : (l : List Rec) → Called none-old net comes v d ws done s l → wordsAs net (going done) l s ≡ some w′ → Next net comes v d ws w′
+      go [] c e = let z : s ≡ w′ = cc in next-call net comes v d ws w′ done (rw z at c)
       go (r ∷ rs) c e = let z : _≡_ {A = ℕ} 0 1 = cc in absurd (omega arith)
   read-whole ws w′ refused p s c e = let z : _≡_ {A = ℕ} 0 1 = cc in absurd (omega arith)
   read-whole ws w′ (failed error) p s c e = let z : _≡_ {A = ℕ} 0 1 = cc in absurd (omega arith)
@@ -79,10 +77,10 @@ wordsOf net w x =
     wordsAs net (r .verdict) (r .tape .rest) (r .state)
 
 one-call : (net : NetworkInfo) (w : List ℕ) (v d : ℕ → Option ℕ) (x : SubsetEvent) (w′ : List ℕ) → Known net w v d → tableOk (net .«num_nodes») (x .table) ≡ true
-    → wordsOf net w x ≡ some w′ → Next net v d (answers x) w′
+    → wordsOf net w x ≡ some w′ → Next net (speaks net (x .call)) v d (answers x) w′
 one-call net w v d x w′ k t e =
     let r = callSubset net (x .call) w (tapeOf (x .table)) in
-    read-whole net v d (answers x) w′ (r .verdict) (r .tape) (r .state)
+    read-whole net (speaks net (x .call)) v d (answers x) w′ (r .verdict) (r .tape) (r .state)
     (call-ok none-old net w v d (k .held) (tapeOf (x .table)) (table-good (net .«num_nodes») (x .table) t) (k .decided) (x .call)) e
 
 -- A RUN
@@ -264,12 +262,6 @@ module _ (net : NetworkInfo) (w : List ℕ) (v d : ℕ → Option ℕ) (k : Know
       let word : x ≡ getD w (valueAt n p) 0 = cc in
       found-member n (getD w countAt 0) 0 w (record { proposer = p; value = x }) (i .index) (omega arith) (omega (arith, i .below)) (rw (i .who, word))
 
--- besides the rule: nobody is handed up twice
-pub handed-once : (net : NetworkInfo) (h : List SubsetEvent) (w : List ℕ) → Network net → tablesOk (net .«num_nodes») h ≡ true
-    → wordsAfter net (blank (net .«num_nodes»)) h ≡ some w → (i j : ℕ) → i < getD w countAt 0 → j < getD w countAt 0
-    → getD w (arrivalAt (net .«num_nodes») i) 0 ≡ getD w (arrivalAt (net .«num_nodes») j) 0 → i ≡ j
-handed-once net h w k t e = taken-known net h w k t e .held .once
-
 -- THE RULE
 pub subset-rule : SubsetRule
 subset-rule net h x w k t e =
@@ -280,9 +272,12 @@ subset-rule net h x w k t e =
     let all : Known net w (takenBy ofValue (h ++ (x ∷ []))) (takenBy ofDecision (h ++ (x ∷ []))) =
     subst₂ (λ (a b : ℕ → Option ℕ). Known net w a b) (fun-ext (taken-last ofValue h x)) (fun-ext (taken-last ofDecision h x)) (next .known) in
     record {
-      voteOne = λ p v l a b c. next .voteOne p v a c b;
-      voteZero = λ p l few many a. next .voteZero p l few many a;
+      voteOne = next .votes .one;
+      voteZero = next .votes .zero;
+      broadcasts = next .votes .broadcast;
+      agrees = next .votes .agreement;
       done = known-done net w _ _ all;
       handedUp = λ p v a b l. known-handed net w _ _ all p v a b l;
       noOthers = λ c m. known-others net w _ _ all c m;
+      handedOnce = all .held .once;
     }

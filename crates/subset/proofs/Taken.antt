@@ -8,11 +8,11 @@ use mathlib.Core.Option.{Option, none, some}
 use native.Mathlib.Omega.{arith}
 use lib.ListN.{getD}
 use lib.Dec.{eqb, leb}
-use borrow.Author.Tests.{eqb-true, eq-eqb, ne-eqb, leb-true, le-leb}
+use borrow.Author.Tests.{eqb-true, eqb-false, eq-eqb, ne-eqb, leb-true, le-leb}
 use Rattle.steps.specs.declared.network_info.NetworkInfo.{NetworkInfo}
 use Rattle.steps.specs.Network.{numCorrect}
 use Rattle.steps.specs.Answers.{Rec}
-use Rattle.steps.specs.Taken.{orElse, isThere, isTrue, firstTaken, ofValue, ofDecision, asked, onesFrom}
+use Rattle.steps.specs.Taken.{orElse, isThere, isTrue, firstTaken, ofValue, ofDecision, onesFrom}
 use Rattle.steps.proofs.Laws.{and-true}
 use Rattle.steps.proofs.Chains.{orElse-assoc, Bit}
 use Rattle.subset.specs.declared.ProposalState.the-variants.{Ongoing}
@@ -21,7 +21,7 @@ use Rattle.subset.specs.Proposal.{accepted, complete}
 use Rattle.subset.specs.Subset.{countFrom, completeFrom}
 use Rattle.subset.specs.Rule.{settledFrom, isOver}
 use Rattle.subset.proofs.Proposals.{stateOf}
-use Rattle.subset.proofs.Counts.{ones-if, count-rises, count-one}
+use Rattle.subset.proofs.Counts.{ones-if, count-rises}
 use Rattle.subset.proofs.Held.{Held}
 
 -- WHAT GROWS: what is there stays as it is
@@ -67,10 +67,9 @@ pub record Linked (v d v′ d′ : ℕ → Option ℕ) (ws r : List Rec) : Type 
   pub decision : (q : ℕ) → orElse (d q) (firstTaken ofDecision q ws) ≡ orElse (d′ q) (firstTaken ofDecision q r)
   pub grownV : (q : ℕ) → Grown (v q) (v′ q)
   pub grownD : (q : ℕ) → Grown (d q) (d′ q)
-  pub asks : (kind q : ℕ) → asked kind q r ≡ true → asked kind q ws ≡ true
 
 pub linked-same : (v d : ℕ → Option ℕ) (ws : List Rec) → Linked v d v d ws ws
-linked-same v d ws = record { value = λ q. refl; decision = λ q. refl; grownV = λ q x e. e; grownD = λ q x e. e; asks = λ kind q e. e }
+linked-same v d ws = record { value = λ q. refl; decision = λ q. refl; grownV = λ q x e. e; grownD = λ q x e. e }
 
 pub linked-then : {v d v′ d′ v″ d″ : ℕ → Option ℕ} {ws r z : List Rec} → Linked v d v′ d′ ws r → Linked v′ d′ v″ d″ r z → Linked v d v″ d″ ws z
 linked-then a b = record {
@@ -78,11 +77,10 @@ linked-then a b = record {
   decision = λ q. a .decision q ∙ b .decision q;
   grownV = λ q x e. b .grownV q x (a .grownV q x e);
   grownD = λ q x e. b .grownD q x (a .grownD q x e);
-  asks = λ kind q e. a .asks kind q (b .asks kind q e);
 }
 
 -- WHAT IS OVER STAYS OVER
-abbrev cell : Option ℕ → Option ℕ → Bool
+abbrev pub cell : Option ℕ → Option ℕ → Bool
 cell v d = isThere d && (not (isTrue d) || isThere v)
 
 or-true : (x : Bool) → x || true ≡ true
@@ -130,11 +128,25 @@ module _ (v d v′ d′ : ℕ → Option ℕ) (gv : (q : ℕ) → Grown (v q) (v
       let o = leb-true (numCorrect net) (onesFrom d n 0) (h .1) in
       both (settledFrom v′ d′ n 0) (leb (numCorrect net) (onesFrom d′ n 0)) (settled-grows n 0 (h .0)) (le-leb (numCorrect net) (onesFrom d′ n 0) (omega (arith, ones-grow n 0)))
 
--- one decision more is one 1 more at most
-pub ones-one : (d : ℕ → Option ℕ) (p : ℕ) (t : Option ℕ) (m i : ℕ) → onesFrom (more d p t) m i ≤ onesFrom d m i + 1
-ones-one d p t m i =
-    rw (ones-if d m i, ones-if (more d p t) m i)
-    (count-one (λ q. isTrue (d q)) (λ q. isTrue (more d p t q)) p (λ q ne. ap isTrue (put-other d p (orElse (d p) t) q ne)) m i)
+-- WHAT IS SETTLED, proposer by proposer
+pub settled-cell : (v d : ℕ → Option ℕ) (m p : ℕ) → settledFrom v d m p ≡ true → (q : ℕ) → p ≤ q → q < p + m → cell (v q) (d q) ≡ true
+unfolding settledFrom
+settled-cell v d zero p e q l h = absurd (omega arith)
+settled-cell v d (suc m) p e q l h = go (eqb q p) refl (settled-cell v d m (p + 1) (two .1) q)
+  where
+    two : (cell (v p) (d p) ≡ true) × (settledFrom v d m (p + 1) ≡ true)
+    two = and-true (cell (v p) (d p)) (settledFrom v d m (p + 1)) e
+
+    go : (x : Bool) → eqb q p ≡ x → (p + 1 ≤ q → q < p + 1 + m → cell (v q) (d q) ≡ true) → cell (v q) (d q) ≡ true
+    go true y f = rw (eqb-true q p y) (two .0)
+    go false y f = let ne = eqb-false q p y in f (omega arith) (omega arith)
+
+pub settled-decided : (v d : ℕ → Option ℕ) (m : ℕ) → settledFrom v d m 0 ≡ true → (q : ℕ) → q < m → isThere (d q) ≡ true
+settled-decided v d m e q l = and-true (isThere (d q)) (not (isTrue (d q)) || isThere (v q)) (settled-cell v d m 0 e q (omega arith) (omega arith)) .0
+
+pub over-decided : (net : NetworkInfo) (v d : ℕ → Option ℕ) → isOver net v d ≡ true → (q : ℕ) → q < net .«num_nodes» → isThere (d q) ≡ true
+unfolding isOver
+over-decided net v d e = settled-decided v d (net .«num_nodes») (and-true (settledFrom v d (net .«num_nodes») 0) (leb (numCorrect net) (onesFrom d (net .«num_nodes») 0)) e .0)
 
 pub ones-same : (d d′ : ℕ → Option ℕ) → ((q : ℕ) → d q ≡ d′ q) → (m i : ℕ) → onesFrom d m i ≡ onesFrom d′ m i
 unfolding onesFrom

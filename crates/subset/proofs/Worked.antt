@@ -1,8 +1,8 @@
--- One run of four nodes, computed: the premises of `subset-rule` hold of it, and those of a vote 1 and of a vote 0. Assumes nothing.
+-- Runs of four nodes, computed: the premises of `subset-rule` hold of the first, and it has a vote 1 and a vote 0; in the others, calls that ask nothing. Assumes nothing.
 use Prim.Native.Nat.{ℕ}
 use mathlib.Core.Path.{_≡_, refl}
 use mathlib.Core.List.{List, [], _∷_, _++_}
-use mathlib.Core.Bool.{true}
+use mathlib.Core.Bool.{true, false}
 use mathlib.Core.Option.{Option, none, some}
 use native.Mathlib.Omega.{arith}
 use lib.ListN.{getD}
@@ -12,11 +12,11 @@ use Rattle.steps.specs.Answers.{link, recAt, onRecord, walk, chain, askFor, ask
 use Rattle.steps.specs.Table.{recordOk, contextAfter, mayFollow, chainOk, shapeOk, tableOk}
 use Rattle.steps.specs.Runs.{onwardAs, onward, heardAs, heard}
 use Rattle.steps.specs.Parts.{isPart, partEntries, outputOf, lastOf, lastOutput, partsFrom}
-use Rattle.steps.specs.Taken.{orElse, isTrue, lastOutputIn, firstTaken, ofValue, ofDecision, onesFrom}
+use Rattle.steps.specs.Taken.{orElse, isTrue, lastOutputIn, firstTaken, ofValue, ofDecision, asked, onesFrom}
 use Rattle.subset.specs.Words.{newEpoch, decidedAt, proposalOf, tagOf, valueOf, loadProposal, storeProposal, addContribution}
 use Rattle.subset.specs.Proposal.{accepted, complete, afterAgreement, afterBroadcast, asksAgreement, asksBroadcast, instanceAnswer, handleAgreement, voteTrue, afterValue, handleBroadcast}
 use Rattle.subset.specs.Subset.{countFrom, completeFrom, contributed, atProposal, broadcastAt, agreementAt, voteFrom, votes, tryOutput, propose, handleMessage}
-use Rattle.subset.specs.Rule.{SubsetEvent, broadcasting, answers, tablesOk, takenBy, callSubset, wordsAs, thenWords, wordsAfter, blank, Contribution, contributionsFrom, contributions, decidedBefore7}
+use Rattle.subset.specs.Rule.{SubsetCall, SubsetEvent, proposing, broadcasting, agreeing, answers, tablesOk, takenBy, callSubset, wordsAs, thenWords, wordsAfter, blank, Contribution, contributionsFrom, contributions, decidedBefore7, speaks}
 
 abbrev four : NetworkInfo
 four = record { «num_nodes» = 4; «num_faulty» = 1; «our_id» = 0; «has_key» = true }
@@ -57,8 +57,56 @@ pub four-tables : tablesOk 4 (earlier ++ (third ∷ [])) ≡ true
 unfolding recordOk contextAfter mayFollow chainOk shapeOk tableOk tablesOk
 four-tables = refl
 
--- the premises of the vote 1 for proposer 2 and of the vote 0 for proposer 3
-pub four-votes : (takenBy ofValue earlier 2 ≡ none) × (firstTaken ofValue 2 (answers third) ≡ some 9) × (takenBy ofDecision earlier 2 ≡ none)
-    × (onesFrom (takenBy ofDecision earlier) 4 0 ≡ 2) × (onesFrom (decidedBefore7 earlier third) 4 0 ≡ 3) × (decidedBefore7 earlier third 3 ≡ none)
-unfolding link recAt onRecord walk chain isPart orElse isTrue lastOutputIn firstTaken onesFrom takenBy
-four-votes = (refl, refl, refl, refl, refl, refl)
+-- vote 1 for proposer 2 and vote 0 for proposer 3 are asked for, and the rule's tests of them
+pub four-votes : (asked 6 2 (answers third) ≡ true) × (firstTaken ofValue 2 (answers third) ≡ some 9) × (takenBy ofDecision earlier 2 ≡ none)
+    × (asked 7 3 (answers third) ≡ true) × (onesFrom (decidedBefore7 earlier third) 4 0 ≡ 3) × (decidedBefore7 earlier third 3 ≡ none)
+    × (asked 7 2 (answers third) ≡ false) × (decidedBefore7 earlier third 2 ≡ some 1)
+unfolding link recAt onRecord walk chain isPart orElse isTrue lastOutputIn firstTaken asked onesFrom takenBy
+four-votes = (refl, refl, refl, refl, refl, refl, refl, refl)
+
+-- CALLS THAT ASK NOTHING. A broadcast message in HasValue, an agreement message in Accepted, either in Complete; and no vote 1 for a value
+-- that comes in Accepted
+abbrev with : SubsetCall → List ℕ → SubsetEvent
+with call records = record { call = call; table = records }
+
+abbrev nothing : List ℕ
+nothing = 0 ∷ 0 ∷ 0 ∷ 0 ∷ []
+
+-- an answer of this kind about p, with this output
+abbrev answering : ℕ → ℕ → ℕ → List ℕ
+answering kind p out = 1 ∷ 0 ∷ 0 ∷ 0 ∷ 2 ∷ kind ∷ 1 ∷ p ∷ 0 ∷ 18 ∷ 0 ∷ out ∷ []
+
+abbrev silent : List SubsetEvent
+silent =
+    with (broadcasting 0) (1 ∷ 0 ∷ 0 ∷ 0 ∷ 2 ∷ 4 ∷ 1 ∷ 0 ∷ 3 ∷ 18 ∷ 0 ∷ 7 ∷ 0 ∷ 6 ∷ 1 ∷ 0 ∷ [])
+    ∷ with (broadcasting 0) nothing
+    ∷ with (agreeing 1) (answering 5 1 1)
+    ∷ with (agreeing 1) nothing
+    ∷ with (broadcasting 1) (answering 4 1 8)
+    ∷ with (broadcasting 1) nothing
+    ∷ with (agreeing 1) nothing
+    ∷ []
+
+pub silent-run : seen (wordsAfter four (blank 4) silent) ≡ some (0, contribution 1 8 ∷ [])
+unfolding link recAt onRecord walk chain askFor askAbout onwardAs onward heardAs heard isPart partEntries outputOf lastOf lastOutput partsFrom proposalOf tagOf valueOf loadProposal storeProposal addContribution accepted complete afterAgreement afterBroadcast asksAgreement asksBroadcast instanceAnswer handleAgreement voteTrue afterValue handleBroadcast countFrom completeFrom contributed atProposal broadcastAt agreementAt voteFrom votes tryOutput propose handleMessage callSubset wordsAs thenWords wordsAfter contributionsFrom
+silent-run = refl
+
+-- AN OBSERVER'S PROPOSE asks nothing, N−f ones and an undecided agreement notwithstanding
+abbrev observing : NetworkInfo
+observing = record { «num_nodes» = 4; «num_faulty» = 1; «our_id» = 4; «has_key» = false }
+
+abbrev observed : List SubsetEvent
+observed =
+    with (agreeing 0) (answering 5 0 1)
+    ∷ with (agreeing 1) (answering 5 1 1)
+    ∷ with (agreeing 2) (1 ∷ 0 ∷ 0 ∷ 0 ∷ 2 ∷ 5 ∷ 1 ∷ 2 ∷ 3 ∷ 18 ∷ 0 ∷ 1 ∷ 0 ∷ 7 ∷ 1 ∷ 3 ∷ [])
+    ∷ []
+
+pub observer-run : seen (wordsAfter observing (blank 4) (observed ++ (with proposing nothing ∷ []))) ≡ some (0, [])
+unfolding link recAt onRecord walk chain askFor askAbout onwardAs onward heardAs heard isPart partEntries outputOf lastOf lastOutput partsFrom proposalOf tagOf valueOf loadProposal storeProposal addContribution accepted complete afterAgreement afterBroadcast asksAgreement asksBroadcast instanceAnswer handleAgreement voteTrue afterValue handleBroadcast countFrom completeFrom contributed atProposal broadcastAt agreementAt voteFrom votes tryOutput propose handleMessage callSubset wordsAs thenWords wordsAfter contributionsFrom
+observer-run = refl
+
+pub observer-votes : (asked 7 3 (answers (with proposing nothing)) ≡ false) × (speaks observing proposing ≡ false)
+    × (onesFrom (decidedBefore7 observed (with proposing nothing)) 4 0 ≡ 3) × (decidedBefore7 observed (with proposing nothing) 3 ≡ none)
+unfolding link recAt onRecord walk chain isPart orElse isTrue lastOutputIn firstTaken asked onesFrom takenBy speaks
+observer-votes = (refl, refl, refl, refl)

@@ -2,13 +2,14 @@
 -- which no call fails. Values and decisions are read off the answers. Proved: `subset-rule` in proofs/Rule.antt.
 use Prim.Native.Nat.{ℕ, zero, suc, _+_, _-_, _≤_, _<_}
 use mathlib.Core.Path.{_≡_}
+use mathlib.Core.Logic.{_≢_}
 use mathlib.Core.List.{List, [], _∷_, _++_, List·Memᴰ}
 use mathlib.Core.Bool.{Bool, true, false, cond, _&&_, _||_, not}
 use mathlib.Core.Option.{Option, none, some}
 use lib.ListN.{getD}
 use lib.Dec.{eqb, leb}
 use Rattle.steps.specs.declared.network_info.NetworkInfo.{NetworkInfo}
-use Rattle.steps.specs.Network.{Network, numCorrect}
+use Rattle.steps.specs.Network.{Network, isValidator, numCorrect}
 use Rattle.steps.specs.Answers.{Rec, Tape, tapeOf}
 use Rattle.steps.specs.Table.{within, tableOk}
 use Rattle.steps.specs.Taken.{orElse, isThere, isTrue, firstTaken, ofValue, ofDecision, asked, onesFrom}
@@ -95,13 +96,24 @@ contributions n w = contributionsFrom n (getD w countAt 0) 0 w
 abbrev pub decidedBefore7 : List SubsetEvent → SubsetEvent → ℕ → Option ℕ
 decidedBefore7 h x p = orElse (takenBy ofDecision h p) (firstTaken (within 5 6) p (answers x))
 
+-- a call that comes to the subset: a propose of a validator, or a message
+unfoldable pub speaks : NetworkInfo → SubsetCall → Bool
+speaks net proposing = isValidator net
+speaks net (broadcasting proposer) = true
+speaks net (agreeing proposer) = true
+
 pub record PaperRule (net : NetworkInfo) (h : List SubsetEvent) (x : SubsetEvent) (w : List ℕ) : Type 0 where
-  -- "a delivered value earns a vote 1 while its agreement is undecided"
-  pub voteOne : (p v : ℕ) → p < net .«num_nodes» → takenBy ofValue h p ≡ none → firstTaken ofValue p (answers x) ≡ some v
-      → takenBy ofDecision h p ≡ none → asked 6 p (answers x) ≡ true
-  -- "N−f ones bring vote 0 to undecided agreements without a vote": all those undecided in the call that brings the N−f-th
-  pub voteZero : (p : ℕ) → p < net .«num_nodes» → onesFrom (takenBy ofDecision h) (net .«num_nodes») 0 < numCorrect net
-      → numCorrect net ≤ onesFrom (decidedBefore7 h x) (net .«num_nodes») 0 → decidedBefore7 h x p ≡ none → asked 7 p (answers x) ≡ true
+  -- "a delivered value earns a vote 1 while its agreement is undecided": then, and only then, vote 1 is asked for
+  pub voteOne : (p : ℕ)
+      → asked 6 p (answers x) ≡ (isThere (firstTaken ofValue p (answers x)) && not (isThere (takenBy ofDecision h p)))
+  -- "N−f ones bring vote 0 to undecided agreements without a vote", in the Rust also to those with one, "again on each such call. Above: no
+  -- vote.": in every call that comes to the subset with exactly N−f ones, and in no other
+  pub voteZero : (p : ℕ) → p < net .«num_nodes»
+      → asked 7 p (answers x)
+      ≡ (speaks net (x .call) && (eqb (onesFrom (decidedBefore7 h x) (net .«num_nodes») 0) (numCorrect net) && not (isThere (decidedBefore7 h x p))))
+  -- "No outside call is made in HasValue for broadcast, in Accepted for agreement, in Complete at all."
+  pub broadcasts : (k p : ℕ) → ofValue k ≡ true → asked k p (answers x) ≡ true → (takenBy ofValue h p ≡ none) × (takenBy ofDecision h p ≢ some 0)
+  pub agrees : (p : ℕ) → asked 5 p (answers x) ≡ true → takenBy ofDecision h p ≡ none
   -- "when all have decided, at least N−f of them 1, and every value decided 1 is here": then, and only then, it is done
   pub done : eqb (getD w decidedAt 0) 1 ≡ isOver net (takenBy ofValue (h ++ (x ∷ []))) (takenBy ofDecision (h ++ (x ∷ [])))
   -- "the output is those pairs": handed up are the pairs of a proposer decided 1 and its value
@@ -109,6 +121,9 @@ pub record PaperRule (net : NetworkInfo) (h : List SubsetEvent) (x : SubsetEvent
       → List·Memᴰ (record { proposer = p; value = v }) (contributions (net .«num_nodes») w)
   pub noOthers : (c : Contribution) → List·Memᴰ c (contributions (net .«num_nodes») w)
       → (c .proposer < net .«num_nodes») × (takenBy ofDecision (h ++ (x ∷ [])) (c .proposer) ≡ some 1) × (takenBy ofValue (h ++ (x ∷ [])) (c .proposer) ≡ some (c .value))
+  -- nobody is handed up twice
+  pub handedOnce : (i j : ℕ) → i < getD w countAt 0 → j < getD w countAt 0
+      → getD w (arrivalAt (net .«num_nodes») i) 0 ≡ getD w (arrivalAt (net .«num_nodes») j) 0 → i ≡ j
 
 abbrev pub SubsetRule : Type 0
 SubsetRule =
