@@ -12,7 +12,8 @@ use lib.ListN.{length}
 use borrow.Author.Tests.{eqb-true, eqb-false, eq-eqb, leb-true, ltb-true}
 use Rattle.steps.specs.Answers.{Rec}
 use Rattle.steps.specs.Taken.{orElse, isTrue, lastOutputIn, firstTaken, thirteensIn}
-use Rattle.engine.specs.History.{Turn, noneFails, Event, Entry, Batch, taken, decisionTaken, decidedTrueIn, onesIn, Handed, handed, handedIn, namesOf, thirteensOf, unreadable, unreadableOf, contributors, Reading}
+use Rattle.steps.specs.Batches.{BatchEntry, Batch}
+use Rattle.engine.specs.History.{Turn, noneFails, Event, taken, decisionTaken, decidedTrueIn, onesIn, Handed, handed, handedIn, namesOf, thirteensOf, unreadable, unreadableOf, contributors, Reading}
 use Rattle.engine.specs.Claim.{TookAlike, ReadAlike, DecidedTrue, Rising, Exact, One, Two}
 use Rattle.engine.specs.Pair.{repliesIn}
 use Rattle.engine.proofs.Handout.{true-one, is-true}
@@ -144,10 +145,10 @@ rec-eq x y h =
     let b : x .b ≡ y .b = eqb-true _ _ (right _ _ (right _ _ h)) in
     λ i. record { next = n i; kind = k i; a = a i; b = b i }
 
-unfoldable pub eqEntry : Entry → Entry → Bool
+unfoldable pub eqEntry : BatchEntry → BatchEntry → Bool
 eqEntry x y = both (eqb (x .proposer) (y .proposer)) (eqb (x .plaintext) (y .plaintext))
 
-entry-eq : (x y : Entry) → eqEntry x y ≡ true → x ≡ y
+entry-eq : (x y : BatchEntry) → eqEntry x y ≡ true → x ≡ y
 unfolding eqEntry
 entry-eq x y h =
     let p : x .proposer ≡ y .proposer = eqb-true _ _ (left _ _ h) in

@@ -12,7 +12,8 @@ use Rattle.subset.specs.Rule.{isOver}
 use Rattle.epoch.specs.declared.SubsetHandlingStrategy.{SubsetHandlingStrategy}
 use Rattle.epoch.specs.Words.{DecryptionState, missing, ongoing, complete}
 use Rattle.epoch.specs.Epoch.{handlesNow}
-use Rattle.engine.specs.History.{Entry, Event}
+use Rattle.steps.specs.Batches.{BatchEntry}
+use Rattle.engine.specs.History.{Event}
 
 -- a proposer and its plaintext, if it has one
 pub record Paired : Type 0 where
@@ -23,7 +24,7 @@ abbrev pub paired : ℕ → Option ℕ → Paired
 paired p plaintext = record { proposer = p; plaintext = plaintext }
 
 -- the pairs of a batch's entries
-unfoldable pub pairsIn : List Entry → List Paired
+unfoldable pub pairsIn : List BatchEntry → List Paired
 pairsIn [] = []
 pairsIn (x ∷ xs) = paired (x .proposer) (some (x .plaintext)) ∷ pairsIn xs
 

@@ -10,7 +10,8 @@ use mathlib.Core.Option.{Option, none, some}
 use lib.ListN.{length, replicate}
 use Rattle.steps.specs.Steps.{Item, item, linkAfter}
 use Rattle.steps.specs.Answers.{Rec}
-use Rattle.engine.specs.History.{Call, propose, message, skip, Event, Batch, handed, valueTaken, decisionTaken, readings}
+use Rattle.steps.specs.Batches.{Batch}
+use Rattle.engine.specs.History.{Call, propose, message, skip, Event, handed, valueTaken, decisionTaken, readings}
 use Rattle.engine.specs.Claim.{Made, turnsOf, historyOf, encryptedOf}
 use Rattle.engine.specs.Pair.{built, serialised, broadcast, delivered, voted, reads, readsNot, table, repliesIn, Seen, seenIn, entry}
 use Rattle.engine.specs.Opened.{opened}

@@ -8,15 +8,16 @@ use native.Mathlib.Omega.{arith}
 use lib.ListN.{length, getD, length-append}
 use lib.Dec.{eqb, ltb}
 use borrow.Author.Tests.{leb-true, ltb-true, ltb-false}
+use Rattle.steps.specs.declared.reader.Content.{Content}
 use Rattle.steps.specs.declared.reader.Answer.{Answer}
 use Rattle.steps.specs.declared.reader.Answer.the-variants.{Got, Refused}
 use Rattle.steps.specs.declared.reader.Output.{Output}
 use Rattle.steps.specs.declared.reader.Output.the-variants.{Missing}
 use Rattle.steps.specs.Table.{shapeOk, tableOk}
-use Rattle.steps.specs.Answers.{Rec, Tape, tape, link, recAt, onRecord, walk, chain, tapeOf, Asked, askFor, ask, askAbout}
+use Rattle.steps.specs.Answers.{Rec, Tape, tape, link, recAt, onRecord, walk, chain, tapeOf, Asked, asked, askFor, ask, askAbout}
 use Rattle.steps.specs.Steps.{Entry, message, fault}
 use Rattle.steps.specs.Runs.{Verdict, going, refused, failed, Run, ends, before, onwardAs, onward, heardAs, heard, inside}
-use Rattle.steps.specs.Parts.{isPart, partEntries, lastOutput, Told, partsFrom, readParts}
+use Rattle.steps.specs.Parts.{isPart, messageKind, faultKind, partEntries, lastOutput, Told, partsFrom, readParts}
 use Rattle.steps.proofs.Laws.{and-true, on-bounds, link-up, link-end}
 use Rattle.steps.proofs.Parts.{parts-on, parts-off}
 use Rattle.steps.proofs.Ranges.{by-test}
@@ -63,14 +64,14 @@ for-fewer : (want : Rec → Bool) (p : Tape) → Fewer p (askFor want p (p .rest
 unfolding askFor
 for-fewer want p = go (p .rest) refl
   where
-    none : Fewer p (record { answer = Refused; tape = p })
+    none : Fewer p (asked Refused p)
     none = record { got = λ a b e. let z : _≡_ {A = ℕ} 0 1 = cc in absurd (omega arith); left = omega arith }
 
     go : (l : List Rec) → p .rest ≡ l → Fewer p (askFor want p l)
     go [] e = none
     go (r ∷ rs) e = by (want r)
       where
-        by : (x : Bool) → Fewer p (cond x (record { answer = Got (r .a) (r .b); tape = tape (r .next) rs }) (record { answer = Refused; tape = p }))
+        by : (x : Bool) → Fewer p (cond x (asked (Got (r .a) (r .b)) (tape (r .next) rs)) (asked Refused p))
         by true = record { got = λ a b _. rw e (omega arith); left = rw e (omega arith) }
         by false = none
 
@@ -106,16 +107,16 @@ pub bounded-inside : {S T A : Type 0} {more : ℕ} {p : Tape} (put : T → S) (r
 bounded-inside put r b = record { short = b .short }
 
 -- THE PARTS of an answer: a part is one entry or none
-part-one : (content proposer kind a b : ℕ) → length (partEntries content proposer kind a b) ≤ 1
+part-one : (content : Content) (proposer kind a b : ℕ) → length (partEntries content proposer kind a b) ≤ 1
 unfolding partEntries
 part-one content proposer kind a b = go (eqb kind 16) (eqb kind 17)
   where
-    go : (x y : Bool) → length (cond x (message content proposer b ∷ []) (cond y (fault (content + 7) a b ∷ []) [])) ≤ 1
+    go : (x y : Bool) → length (cond x (message (messageKind content) proposer b ∷ []) (cond y (fault (faultKind content) a b ∷ []) [])) ≤ 1
     go true y = omega arith
     go false true = omega arith
     go false false = omega arith
 
-module _ (content proposer : ℕ) where
+module _ (content : Content) (proposer : ℕ) where
   parts-few : (o : Output) (i : ℕ) (l : List Rec) → length (partsFrom content proposer o i l .log) + length (partsFrom content proposer o i l .tape .rest) ≤ length l
   unfolding partsFrom
   parts-few o i [] = omega arith
