@@ -106,13 +106,13 @@ tagCompleteFalse = 3
 abbrev pub tagCompleteTrue : ℕ
 tagCompleteTrue = 4
 
--- a tag above these is out of range, and reads as Ongoing
+-- a tag above these is out of range, and reads as the last
 unfoldable pub proposalOf : ℕ → ℕ → ProposalState
 proposalOf tag value =
-    cond (eqb tag tagHasValue) (HasValue value)
+    cond (eqb tag tagOngoing) Ongoing
+    (cond (eqb tag tagHasValue) (HasValue value)
     (cond (eqb tag tagAccepted) Accepted
-    (cond (eqb tag tagCompleteFalse) (Complete false)
-    (cond (eqb tag tagCompleteTrue) (Complete true) Ongoing)))
+    (cond (eqb tag tagCompleteFalse) (Complete false) (Complete true))))
 
 unfoldable pub tagOf : ProposalState → ℕ
 tagOf Ongoing = tagOngoing
