@@ -12,9 +12,8 @@ use borrow.Author.Tests.{eqb-true, eqb-false}
 use Rattle.steps.specs.declared.network_info.NetworkInfo.{NetworkInfo}
 use Rattle.steps.specs.Answers.{Tape}
 use Rattle.steps.specs.Runs.{going, ends, before}
-use Rattle.subset.specs.declared.ProposalState.{ProposalState}
-use Rattle.subset.specs.declared.ProposalState.the-variants.{HasValue, Complete}
-use Rattle.subset.specs.Words.{epochLength, statusAt, decidedAt, acceptedAt, countAt, recordAt, proposalAt, valueAt, arrivalAt, tagHasValue, proposalOf, loadProposal, dropFrom}
+use Rattle.subset.specs.declared.ProposalState.the-variants.{Ongoing, HasValue, Accepted, Complete}
+use Rattle.subset.specs.Words.{epochLength, statusAt, decidedAt, acceptedAt, countAt, recordAt, proposalAt, valueAt, arrivalAt, proposalOf, loadProposal, dropFrom}
 use Rattle.subset.proofs.After.{After, after-map, after-onward}
 use Rattle.subset.proofs.Proposals.{stateOf, outputOf}
 use Rattle.subset.proofs.Counts.{countIf}
@@ -46,11 +45,13 @@ module _ (n : ℕ) where
   -- a proposal that is complete has no value any more
   cleared : (tag x y : ℕ) → proposalOf tag x ≡ Complete true → proposalOf tag y ≡ proposalOf tag x
   unfolding proposalOf
-  cleared tag x y e = go (eqb tag tagHasValue) _ e
+  cleared tag x y e = go (eqb tag 0) (eqb tag 1) (eqb tag 2) (eqb tag 3) e
     where
-      go : (a : Bool) (s : ProposalState) → cond a (HasValue x) s ≡ Complete true → cond a (HasValue y) s ≡ cond a (HasValue x) s
-      go true s e = let z : _≡_ {A = ℕ} 0 1 = cc in absurd (omega arith)
-      go false s e = refl
+      go : (a b c d : Bool) → cond a Ongoing (cond b (HasValue x) (cond c Accepted (cond d (Complete false) (Complete true)))) ≡ Complete true
+          → cond a Ongoing (cond b (HasValue y) (cond c Accepted (cond d (Complete false) (Complete true)))) ≡ cond a Ongoing (cond b (HasValue x) (cond c Accepted (cond d (Complete false) (Complete true))))
+      go true b c d e = refl
+      go false true c d e = let z : _≡_ {A = ℕ} 0 1 = cc in absurd (omega arith)
+      go false false c d e = refl
 
   drop-load : (m i : ℕ) (w : List ℕ) → ((j : ℕ) → i ≤ j → j < i + m → loadProposal n w (getD w (arrivalAt n j) 0) ≡ Complete true)
       → (q : ℕ) → loadProposal n (dropFrom n m i w) q ≡ loadProposal n w q

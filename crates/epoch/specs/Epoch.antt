@@ -12,7 +12,7 @@ use Rattle.steps.specs.Runs.{Verdict, going, refused, failed, Run, ends, before
 use Rattle.steps.specs.Bits.{countBits}
 use Rattle.decryption.specs.declared.ThresholdDecrypt.{ThresholdDecrypt}
 use Rattle.decryption.specs.Decrypt.{new, setCiphertext, startDecryption, isSender, handleMessage as handleShare}
-use Rattle.subset.specs.Words.{statusAt, decidedAt, countAt, statusComplete, acceptedOf, countOf, tagOngoing, proposalAt, valueAt, arrivalAt, dropFrom}
+use Rattle.subset.specs.Words.{statusAt, decidedAt, countAt, statusComplete, acceptedOf, countOf, tagOngoing, proposalAt, valueAt, contributor, dropFrom}
 -- `EpochState::new`
 unfoldable pub use Rattle.subset.specs.Words.{newEpoch}
 use Rattle.subset.specs.Subset.{propose as proposeSubset, handleMessage as handleSubset, receivedProposals as receivedBySubset}
@@ -130,8 +130,8 @@ module _ (net : NetworkInfo) where
     handleFrom zero i w tape = ends (going tt) w tape
     handleFrom (suc m) i w tape =
         onward
-        (handleContribution (getD w (arrivalAt (net .«num_nodes») i) 0)
-        (getD w (valueAt (net .«num_nodes») (getD w (arrivalAt (net .«num_nodes») i) 0)) 0) w tape)
+        (handleContribution (contributor (net .«num_nodes») w i)
+        (getD w (valueAt (net .«num_nodes») (contributor (net .«num_nodes») w i)) 0) w tape)
         (λ _ w tape. handleFrom m (i + 1) w tape)
 
     -- the list is taken out before its contributions are handled: none is left, even after a failure

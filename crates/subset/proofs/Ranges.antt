@@ -19,7 +19,7 @@ use Rattle.steps.specs.Runs.{Run}
 use Rattle.steps.proofs.Ranges.{AllSmall, Kept, Any, SmallOption, SmallOutput, kept-going, kept-failed, kept-cond, kept-about, kept-onward, kept-inside, kept-parts, Below, below-set}
 use Rattle.subset.specs.declared.ProposalState.{ProposalState}
 use Rattle.subset.specs.declared.ProposalState.the-variants.{Ongoing, HasValue, Accepted, Complete}
-use Rattle.subset.specs.Words.{recordLength, epochLength, decidedAt, countAt, isDecided, recordAt, valueAt, arrivalAt, tagHasValue, tagAccepted, tagCompleteFalse, tagCompleteTrue, proposalOf, tagOf, valueOf, loadProposal, storeProposal, addContribution, dropFrom}
+use Rattle.subset.specs.Words.{recordLength, epochLength, decidedAt, countAt, isDecided, recordAt, valueAt, arrivalAt, proposalOf, tagOf, valueOf, loadProposal, storeProposal, addContribution, dropFrom}
 use Rattle.subset.specs.Proposal.{asksAgreement, asksBroadcast, Moved, afterAgreement, afterBroadcast, movedTo, instanceAnswer, handleAgreement, voteTrue, afterValue, handleBroadcast}
 use Rattle.subset.specs.Subset.{allComplete, countAccepted, contributed, atProposal, broadcastAt, agreementAt, voteFrom, votes, tryOutput, propose, handleMessage}
 
@@ -175,11 +175,11 @@ value-below (Complete b) h = omega arith
 
 of-ok : (tag value : ℕ) → value < 4294967296 → ProposalOk (proposalOf tag value)
 unfolding proposalOf ProposalOk
-of-ok tag value h = go (eqb tag tagHasValue) (eqb tag tagAccepted) (eqb tag tagCompleteFalse) (eqb tag tagCompleteTrue)
+of-ok tag value h = go (eqb tag 0) (eqb tag 1) (eqb tag 2) (eqb tag 3)
   where
-    go : (x y z u : Bool) → ProposalOk (cond x (HasValue value) (cond y Accepted (cond z (Complete false) (cond u (Complete true) Ongoing))))
-    go true y z u = h
-    go false true z u = tt
+    go : (x y z u : Bool) → ProposalOk (cond x Ongoing (cond y (HasValue value) (cond z Accepted (cond u (Complete false) (Complete true)))))
+    go true y z u = tt
+    go false true z u = h
     go false false true u = tt
     go false false false true = tt
     go false false false false = tt

@@ -15,8 +15,8 @@ use Rattle.steps.specs.Answers.{Rec}
 use Rattle.steps.specs.Taken.{orElse, isThere, isTrue, firstTaken, ofValue, ofDecision, onesFrom}
 use Rattle.steps.proofs.Laws.{and-true}
 use Rattle.steps.proofs.Chains.{orElse-assoc, Bit}
-use Rattle.subset.specs.declared.ProposalState.the-variants.{Ongoing}
-use Rattle.subset.specs.Words.{recordLength, proposalAt, valueAt, tagHasValue, tagAccepted, tagCompleteFalse, tagCompleteTrue, proposalOf, tagOf, loadProposal}
+use Rattle.subset.specs.declared.ProposalState.the-variants.{Complete}
+use Rattle.subset.specs.Words.{recordLength, proposalAt, valueAt, tagAccepted, tagCompleteFalse, tagCompleteTrue, proposalOf, tagOf, loadProposal}
 use Rattle.subset.specs.Proposal.{accepted, complete}
 use Rattle.subset.specs.Subset.{countFrom, completeFrom}
 use Rattle.subset.specs.Rule.{settledFrom, isOver}
@@ -153,29 +153,28 @@ unfolding onesFrom
 ones-same d d′ h zero i = refl
 ones-same d d′ h (suc m) i = rw (h i, ones-same d d′ h m (i + 1))
 
--- WHAT THE WORDS SAY. A tag is that of the state that it reads as, or no test holds of it
-tag-known : (tag value : ℕ)
-    → (tagOf (proposalOf tag value) ≡ tag)
-    ⊎ ((eqb tag tagAccepted ≡ false) × (eqb tag tagCompleteFalse ≡ false) × (eqb tag tagCompleteTrue ≡ false) × (proposalOf tag value ≡ Ongoing))
+-- WHAT THE WORDS SAY. A tag is that of the state that it reads as, or is above all tags
+tag-known : (tag value : ℕ) → (tagOf (proposalOf tag value) ≡ tag) ⊎ ((tagCompleteTrue ≤ tag) × (proposalOf tag value ≡ Complete true))
 unfolding proposalOf tagOf
-tag-known tag value = go (eqb tag tagHasValue) refl (eqb tag tagAccepted) refl (eqb tag tagCompleteFalse) refl (eqb tag tagCompleteTrue) refl
-  where
-    go : (a : Bool) → eqb tag tagHasValue ≡ a → (b : Bool) → eqb tag tagAccepted ≡ b → (c : Bool) → eqb tag tagCompleteFalse ≡ c → (d : Bool) → eqb tag tagCompleteTrue ≡ d
-        → (tagOf (proposalOf tag value) ≡ tag)
-        ⊎ ((eqb tag tagAccepted ≡ false) × (eqb tag tagCompleteFalse ≡ false) × (eqb tag tagCompleteTrue ≡ false) × (proposalOf tag value ≡ Ongoing))
-    go true a b e c f d g = inl (rw (eqb-true tag tagHasValue a))
-    go false a true e c f d g = inl (rw (eqb-true tag tagAccepted e))
-    go false a false e true f d g = inl (rw (eqb-true tag tagCompleteFalse f))
-    go false a false e false f true g = inl (rw (eqb-true tag tagCompleteTrue g))
-    go false a false e false f false g = inr (e, f, g, rw (a, e, f, g))
+tag-known zero value = inl refl
+tag-known (suc zero) value = inl refl
+tag-known (suc (suc zero)) value = inl refl
+tag-known (suc (suc (suc zero))) value = inl refl
+tag-known (suc (suc (suc (suc t)))) value =
+    let tag = suc (suc (suc (suc t))) in
+    inr (omega arith, rw (ne-eqb tag 0 (λ e. omega arith), ne-eqb tag 1 (λ e. omega arith), ne-eqb tag 2 (λ e. omega arith), ne-eqb tag 3 (λ e. omega arith)))
+
+or-right : (x y : Bool) → y ≡ true → x || y ≡ true
+or-right true y e = refl
+or-right false y e = e
 
 accepted-tag : (tag value : ℕ) → accepted tag ≡ accepted (tagOf (proposalOf tag value))
 unfolding accepted tagOf
-accepted-tag tag value = elim (tag-known tag value) [ inl e ↦ rw e | inr e ↦ rw (e .0, e .2, e .3) ]
+accepted-tag tag value = elim (tag-known tag value) [ inl e ↦ rw e | inr e ↦ rw (e .1) (or-right (eqb tag tagAccepted) _ (le-leb tagCompleteTrue tag (e .0))) ]
 
 complete-tag : (tag value : ℕ) → complete tag ≡ complete (tagOf (proposalOf tag value))
 unfolding complete tagOf
-complete-tag tag value = elim (tag-known tag value) [ inl e ↦ rw e | inr e ↦ rw (e .1, e .2, e .3) ]
+complete-tag tag value = elim (tag-known tag value) [ inl e ↦ rw e | inr e ↦ rw (e .1) (le-leb tagCompleteFalse tag (omega (arith, e .0))) ]
 
 accepted-is : (v d : Option ℕ) → Bit d → accepted (tagOf (stateOf v d)) ≡ isTrue d
 unfolding accepted tagOf isTrue Bit

@@ -2,7 +2,7 @@
 use Prim.Native.Nat.{ℕ, zero, suc}
 use mathlib.Core.Bool.{Bool, true, false, cond, _||_}
 use mathlib.Core.Option.{Option, none, some}
-use lib.Dec.{eqb}
+use lib.Dec.{eqb, leb}
 use Rattle.steps.specs.declared.reader.Content.{Content}
 use Rattle.steps.specs.declared.reader.Content.the-variants.{Broadcast, Agreement}
 use Rattle.steps.specs.declared.reader.Output.{Output}
@@ -16,15 +16,15 @@ use Rattle.subset.specs.Words.{tagHasValue, tagAccepted, tagCompleteFals
 
 -- THREE TESTS of a proposal, by its tag: the value is here, or was output
 unfoldable pub received : ℕ → Bool
-received tag = eqb tag tagHasValue || eqb tag tagCompleteTrue
+received tag = eqb tag tagHasValue || leb tagCompleteTrue tag
 
 -- the agreement has decided 1, whether the value is here or not
 unfoldable pub accepted : ℕ → Bool
-accepted tag = eqb tag tagAccepted || eqb tag tagCompleteTrue
+accepted tag = eqb tag tagAccepted || leb tagCompleteTrue tag
 
 -- rejected, or accepted and output
 unfoldable pub complete : ℕ → Bool
-complete tag = eqb tag tagCompleteFalse || eqb tag tagCompleteTrue
+complete tag = leb tagCompleteFalse tag
 
 -- a proposal's state and the value that it outputs, if it does
 pub record Moved : Type 0 where

@@ -83,6 +83,9 @@ valueAt n p = recordAt n p valueField
 abbrev pub arrivalAt : ℕ → ℕ → ℕ
 arrivalAt n i = recordAt n i arrivalField
 
+abbrev pub contributor : ℕ → List ℕ → ℕ → ℕ
+contributor n w i = getD w (arrivalAt n i) 0
+
 -- the tag of a proposal where a record has `size` words
 abbrev pub proposalIn : ℕ → List ℕ → ℕ → ℕ
 proposalIn size w p = getD w (fieldAt size p proposalField) 0
@@ -103,13 +106,13 @@ tagCompleteFalse = 3
 abbrev pub tagCompleteTrue : ℕ
 tagCompleteTrue = 4
 
--- a tag above these is out of range, and reads as Ongoing
+-- a tag above these is out of range, and reads as the last
 unfoldable pub proposalOf : ℕ → ℕ → ProposalState
 proposalOf tag value =
-    cond (eqb tag tagHasValue) (HasValue value)
+    cond (eqb tag tagOngoing) Ongoing
+    (cond (eqb tag tagHasValue) (HasValue value)
     (cond (eqb tag tagAccepted) Accepted
-    (cond (eqb tag tagCompleteFalse) (Complete false)
-    (cond (eqb tag tagCompleteTrue) (Complete true) Ongoing)))
+    (cond (eqb tag tagCompleteFalse) (Complete false) (Complete true))))
 
 unfoldable pub tagOf : ProposalState → ℕ
 tagOf Ongoing = tagOngoing
@@ -140,4 +143,4 @@ addContribution n w p value =
 -- the list without its entries from the i-th on, of which there are m
 unfoldable pub dropFrom : ℕ → ℕ → ℕ → List ℕ → List ℕ
 dropFrom n zero i w = w
-dropFrom n (suc m) i w = dropFrom n m (i + 1) (set (set w (valueAt n (getD w (arrivalAt n i) 0)) 0) (arrivalAt n i) 0)
+dropFrom n (suc m) i w = dropFrom n m (i + 1) (set (set w (valueAt n (contributor n w i)) 0) (arrivalAt n i) 0)
