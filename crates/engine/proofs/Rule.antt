@@ -11,7 +11,7 @@ use lib.ListN.{getD}
 use borrow.Author.Tests.{eqb-true, le-leb}
 use Rattle.steps.specs.declared.network_info.NetworkInfo.{NetworkInfo}
 use Rattle.steps.specs.Network.{Network, numCorrect}
-use Rattle.steps.specs.Taken.{orElse, isThere, isTrue, firstTaken, onesFrom}
+use Rattle.steps.specs.Taken.{orElse, isThere, isTrue, onesFrom}
 use Rattle.steps.proofs.Laws.{and-true}
 use Rattle.subset.specs.Words.{statusAt}
 use Rattle.subset.specs.Rule.{settledFrom, isOver}

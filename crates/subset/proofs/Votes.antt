@@ -1,13 +1,13 @@
 -- What was asked for of the kinds 3 to 7 between a chain of answers and its rest: the parts of a subset call, and answers of other kinds before and after it. Assumes nothing.
-use Prim.Native.Nat.{ℕ, _<_}
+use Prim.Native.Nat.{ℕ, _≤_, _<_}
 use mathlib.Core.Path.{_≡_, refl, sym, ap, _∙_}
 use mathlib.Core.Logic.{_≢_, _⊎_, inl, inr}
 use mathlib.Core.List.{List, []}
-use mathlib.Core.Bool.{Bool, true, false, cond, _&&_, _||_, not, false≢true}
+use mathlib.Core.Bool.{Bool, true, false, _&&_, _||_, not, false≢true}
 use mathlib.Core.Option.{Option, none, some}
 use native.Mathlib.Omega.{arith}
 use lib.Dec.{eqb, leb}
-use borrow.Author.Tests.{eqb-true, leb-true, le-leb}
+use borrow.Author.Tests.{leb-true, le-leb}
 use Rattle.steps.specs.declared.network_info.NetworkInfo.{NetworkInfo}
 use Rattle.steps.specs.Network.{numCorrect}
 use Rattle.steps.specs.Answers.{Rec}
@@ -19,24 +19,17 @@ use Rattle.steps.proofs.Read13.{Neither}
 use Rattle.steps.proofs.Past.{Past, Others, past-first, past-asked}
 use Rattle.subset.proofs.Taken.{ones-same}
 
--- a kind of broadcast is one of the kinds 3 to 6
+-- kinds of a range are of a wider one
+wider : (lo hi lo′ hi′ k : ℕ) → lo′ ≤ lo → hi ≤ hi′ → within lo hi k ≡ true → within lo′ hi′ k ≡ true
+wider lo hi lo′ hi′ k a b e =
+    let t = and-true (leb lo k) (leb k hi) e in
+    rw (le-leb lo′ k (omega (arith, leb-true lo k (t .0))), le-leb k hi′ (omega (arith, leb-true k hi (t .1))))
+
 pub value-low : (k : ℕ) → ofValue k ≡ true → within 3 6 k ≡ true
-value-low k e =
-    let t = and-true (leb 3 k) (leb k 4) e in
-    rw (le-leb 3 k (leb-true 3 k (t .0)), le-leb k 6 (omega (arith, leb-true k 4 (t .1))))
+value-low k e = wider 3 4 3 6 k (omega arith) (omega arith) e
 
 low-subset : (k : ℕ) → within 3 6 k ≡ true → within 3 7 k ≡ true
-low-subset k e =
-    let t = and-true (leb 3 k) (leb k 6) e in
-    rw (le-leb 3 k (leb-true 3 k (t .0)), le-leb k 7 (omega (arith, leb-true k 6 (t .1))))
-
-value-subset : (k : ℕ) → ofValue k ≡ true → within 3 7 k ≡ true
-value-subset k e = low-subset k (value-low k e)
-
-early-subset : (k : ℕ) → within 5 6 k ≡ true → within 3 7 k ≡ true
-early-subset k e =
-    let t = and-true (leb 5 k) (leb k 6) e in
-    rw (le-leb 3 k (omega (arith, leb-true 5 k (t .0))), le-leb k 7 (omega (arith, leb-true k 6 (t .1))))
+low-subset k e = wider 3 6 3 7 k (omega arith) (omega arith) e
 
 -- what is none of the subset's kinds is none of some of them
 none-of : (of : ℕ → Bool) → ((k : ℕ) → of k ≡ true → within 3 7 k ≡ true) → (k : ℕ) → within 3 7 k ≡ false → of k ≡ false
@@ -103,8 +96,8 @@ untold-neither a = record { still = record { value = a .value; early = a .early;
 pub untold-past : (is : ℕ → Bool) → Others is (within 3 7) → (ws r : List Rec) → Past is ws r → Untold ws r
 untold-past is f ws r p = record {
   still = record {
-    value = past-first is ofValue (λ k e. none-of ofValue value-subset k (f k e)) p;
-    early = past-first is (within 5 6) (λ k e. none-of (within 5 6) early-subset k (f k e)) p;
+    value = past-first is ofValue (λ k e. none-of ofValue (λ j. wider 3 4 3 7 j (omega arith) (omega arith)) k (f k e)) p;
+    early = past-first is (within 5 6) (λ k e. none-of (within 5 6) (λ j. wider 5 6 3 7 j (omega arith) (omega arith)) k (f k e)) p;
     low = λ k e q. past-asked is k (λ j z. apart (within 3 7) j k (f j z) (low-subset k e)) p q;
   };
   zero = λ q. past-asked is 7 (λ j z. apart (within 3 7) j 7 (f j z) refl) p q;

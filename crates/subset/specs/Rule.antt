@@ -1,10 +1,10 @@
 -- THE PAPER'S RULE (Miller et al., CCS 2016, as document 01 words it) at the subset layer, over a run of subset calls of one epoch in
 -- which no call fails. Values and decisions are read off the answers. Proved: `subset-rule` in proofs/Rule.antt.
-use Prim.Native.Nat.{ℕ, zero, suc, _+_, _-_, _≤_, _<_}
+use Prim.Native.Nat.{ℕ, zero, suc, _+_, _<_}
 use mathlib.Core.Path.{_≡_}
 use mathlib.Core.Logic.{_≢_}
 use mathlib.Core.List.{List, [], _∷_, _++_, List·Memᴰ}
-use mathlib.Core.Bool.{Bool, true, false, cond, _&&_, _||_, not}
+use mathlib.Core.Bool.{Bool, true, _&&_, _||_, not}
 use mathlib.Core.Option.{Option, none, some}
 use lib.ListN.{getD}
 use lib.Dec.{eqb, leb}
