@@ -14,3 +14,4 @@ pub mod Holds
 pub mod Laws
 pub mod Batches
 pub mod Bounded
+pub mod Orders
