@@ -12,6 +12,7 @@ use lib.ListN.{length, getD, set, replicate}
 use lib.Seq.{getD-set-other}
 use lib.Dec.{eqb}
 use borrow.Author.Tests.{eqb-true, eq-eqb, ne-eqb}
+use lib.Pow.{pow-pos}
 use lib.Count.{ones}
 use Rattle.steps.specs.declared.network_info.NetworkInfo.{NetworkInfo}
 use Rattle.steps.specs.Answers.{Rec, Tape, tape, askFor, askAbout}
@@ -31,8 +32,9 @@ use Rattle.epoch.specs.declared.SubsetHandlingStrategy.{SubsetHandlingSt
 use Rattle.epoch.specs.declared.SubsetHandlingStrategy.the-variants.{AllAtEnd}
 use Rattle.epoch.specs.Words.{isVacant, isComplete, isAccepted, accept, missing, ongoing, complete, entryOngoing, decryptionAt, plaintextAt, shareAt, asks, isSettled, decryptionIn, sharesFrom, loadInstance, loadEntry, loadDecryption, storeEntry, storeDecryption}
 use Rattle.epoch.specs.Epoch.{receivedProposals, unexpectedFrom, unexpectedShares, subsetComplete, proposalDropped, entryAfter, processDecryption, callEntry, inputCiphertext, sendDecryptionShare, handleContribution, handleFrom, handleContributions, processSubset, firstContributions, handlesNow, finishAt, finishFrom}
-use Rattle.epoch.specs.Batch.{decryptedFrom, isReadyIn, isReady}
+use Rattle.epoch.specs.Batch.{decryptedFrom, isReadyIn, isReady, isRead, readAt, readFrom}
 use Rattle.epoch.specs.Orders.{receivedBits, isUnexpected, bySender, byProposer, Contribution, arrivals, handleEach}
+use Rattle.epoch.proofs.RangesWords.{with-below}
 use Rattle.epoch.proofs.Entries.{accept-word, accept-same, entry-tag, store-size, places, store-word, store-subset}
 use Rattle.epoch.proofs.Texts.{after-about}
 use Rattle.epoch.proofs.Shares.{by-entry}
@@ -309,3 +311,26 @@ module _ (n p : ℕ) (w : List ℕ) (inside : p < n) (size : length w ≡ epochL
       let long : length v ≡ length w = store-size n p w (ongoing td) in
       epoch-waits n p (accept v p) inside (accept-same v p (omega (arith, size)))
       (rw (accept-word v p (decryptionAt n p) (λ e. omega arith), entry-tag n p w entryOngoing 0 td inside size))
+
+-- THE ENTRIES OF A BATCH are as many as the readable ones, which the language's count of ones counts: no bit above the n-th is ever set
+module _ (size n : ℕ) where
+  abbrev Few : ℕ → List ℕ → Tape → Type 0
+  Few readable w z = readable < 2 ^ n
+
+  readable-at : (p readable : ℕ) (w : List ℕ) (u : Tape) → p < n → readable < 2 ^ n → After (readAt size p readable w u) Few
+  unfolding readAt
+  readable-at p readable w u l h =
+      after-cond (isRead size w p) _ _ Few
+      (after-about u 13 w _ Few p (λ a b z r. after-cond (eqb a 0) _ _ Few h (with-below n readable p l h)))
+      h
+
+  readable-below : (m p readable : ℕ) (w : List ℕ) (u : Tape) → p + m ≤ n → readable < 2 ^ n → After (readFrom size m p readable w u) Few
+  unfolding readFrom
+  readable-below zero p readable w u l h = h
+  readable-below (suc m) p readable w u l h =
+      after-onward _ _ Few
+      (after-map (readAt size p readable w u) Few _ (readable-at p readable w u (omega arith) h) (λ x w z k. readable-below m (p + 1) x w z (omega arith) k))
+
+  pub entries-ones : (w : List ℕ) (u : Tape) → After (readFrom size n 0 0 w u) (λ readable w z. countBits n 0 readable ≡ ones readable)
+  entries-ones w u =
+      after-map (readFrom size n 0 0 w u) Few _ (readable-below n 0 0 w u (omega arith) (pow-pos n)) (λ x w z k. sym (ones-bits n x k))
