@@ -1,11 +1,11 @@
 -- Cases beyond the twelve, in the language of Cases.antt: failed calls, the checks and their order, batches and has input, create's bounds,
--- proposals and shares that are not looked at.
+-- proposals and shares that are not looked at, votes above N−f.
 use mathlib.Core.Path.{refl}
 use mathlib.Core.List.{List, [], _∷_, _++_}
 use lib.ListN.{replicate}
 use Rattle.steps.specs.Steps.{item}
 use Rattle.engine.specs.Cases
-use Rattle.engine.specs.Cases.{create, propose, message, proposeWith, skip, currentEpoch, hasInput, receivedProposals, faultCount, encrypts, wordAt, putWord, nines, Row, _⇒_, Case, case, caseAfter, AllHold, numbers, yes, no, out, answers, rec, broadcast, share, passes, faulty, wanting, unread, chain-1, case-7}
+use Rattle.engine.specs.Cases.{create, propose, message, proposeWith, skip, currentEpoch, hasInput, receivedProposals, faultCount, encrypts, wordAt, putWord, nines, Row, _⇒_, Case, case, caseAfter, AllHold, numbers, yes, no, out, answers, rec, broadcast, agreement, share, passes, faulty, wanting, unread, chain-1, case-7}
 
 -- CASE 13. Faults of a failed call are not counted, and its step table gets only a header, with its epoch
 abbrev pub case-13 : List Row
@@ -150,6 +150,22 @@ case-18 =
     ∷ (wordAt 41 ⇒ 501 ∷ [])
     ∷ []
 
+-- CASE 19. N 7, f 2: at five accepted kind 7 is wanted of the other two, and lifts the count to six; with six accepted and one Ongoing no
+-- kind 7 is wanted, so that "N−f or more" shows
+abbrev pub case-19 : List Row
+case-19 =
+    (create (numbers 7 2 0 0 1 0 0 1 0 0) 137 ⇒ 0 ∷ [])
+    ∷ (agreement 0 (yes 1 0 ∷ yes 5 0 ∷ out 1 ∷ []) ⇒ passes)
+    ∷ (agreement 1 (yes 5 1 ∷ out 1 ∷ []) ⇒ passes)
+    ∷ (agreement 2 (yes 5 2 ∷ out 1 ∷ []) ⇒ passes)
+    ∷ (agreement 3 (yes 5 3 ∷ out 1 ∷ []) ⇒ passes)
+    ∷ (agreement 4 (yes 5 4 ∷ out 1 ∷ []) ⇒ wanting)
+    ∷ (agreement 4 (yes 5 4 ∷ out 1 ∷ yes 7 5 ∷ out 1 ∷ []) ⇒ wanting)
+    ∷ (agreement 4 (yes 5 4 ∷ out 1 ∷ yes 7 5 ∷ out 1 ∷ yes 7 6 ∷ []) ⇒ passes)
+    ∷ (agreement 6 (yes 5 6 ∷ yes 7 6 ∷ []) ⇒ unread)
+    ∷ (agreement 6 (yes 5 6 ∷ []) ⇒ passes)
+    ∷ []
+
 -- THE TABLE
 unfoldable pub further : List Case
 further =
@@ -159,8 +175,9 @@ further =
     ∷ case 16 case-16
     ∷ case 17 case-17
     ∷ caseAfter 18 case-7 case-18
+    ∷ case 19 case-19
     ∷ []
 
 pub further-cases : AllHold further
 unfolding Cases.openedHere further
-further-cases = (refl, (refl, (refl, (refl, (refl, (refl, tt))))))
+further-cases = (refl, (refl, (refl, (refl, (refl, (refl, (refl, tt)))))))

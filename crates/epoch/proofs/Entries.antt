@@ -94,7 +94,7 @@ unfolding isAccepted
 accepted-kept w w′ e q = rw e
 
 -- AN ENTRY. Two proposers' words are at different places
-places : (n p q j k : ℕ) → j < 8 + n → k < 8 + n → (p ≡ q → ⊥) → recordAt n p j ≡ recordAt n q k → ⊥
+pub places : (n p q j k : ℕ) → j < 8 + n → k < 8 + n → (p ≡ q → ⊥) → recordAt n p j ≡ recordAt n q k → ⊥
 places n p q j k a b ne e = go (ltb p q) refl
   where
     go : (x : Bool) → ltb p q ≡ x → ⊥
@@ -104,7 +104,7 @@ places n p q j k a b ne e = go (ltb p q) refl
         omega (arith, mul-le-mul-right (8 + n) u, suc-mul q (8 + n))
 
 -- i is none of the words that p's entry has
-abbrev Apart : ℕ → ℕ → ℕ → Type 0
+abbrev pub Apart : ℕ → ℕ → ℕ → Type 0
 Apart n p i = (j : ℕ) → 2 ≤ j → j < 8 + n → (j ≡ 7 → ⊥) → i ≡ recordAt n p j → ⊥
 
 module _ (n p : ℕ) where
@@ -198,7 +198,7 @@ module _ (n p : ℕ) where
         go (ongoing td) = entry-size w 1 0 td
         go (complete x) = entry-size w 2 x new
 
-    store-word : (i : ℕ) → Apart n p i → getD (storeDecryption n w p e) i 0 ≡ getD w i 0
+    pub store-word : (i : ℕ) → Apart n p i → getD (storeDecryption n w p e) i 0 ≡ getD w i 0
     unfolding storeDecryption
     store-word i f = go e
       where

@@ -16,3 +16,4 @@ pub mod Laws
 pub mod Eights
 pub mod Batches
 pub mod Bounded
+pub mod Orders

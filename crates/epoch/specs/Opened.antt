@@ -4,6 +4,7 @@ use Rattle.subset.specs.Opened as SubsetOpened
 use Rattle.epoch.specs.Words
 use Rattle.epoch.specs.Epoch
 use Rattle.epoch.specs.Batch
+use Rattle.epoch.specs.Orders
 
 unfoldable pub opened : Unit {0}
 unfolding DecryptionOpened.opened SubsetOpened.opened
@@ -16,4 +17,5 @@ unfolding DecryptionOpened.opened SubsetOpened.opened
     Epoch.handleContribution Epoch.handleFrom Epoch.handleContributions Epoch.processSubset Epoch.handedUp
     Epoch.callSubset Epoch.propose Epoch.handleMessageContent
     Batch.decryptedFrom Batch.isReadyIn Batch.isRead Batch.readAt Batch.readFrom Batch.entriesFrom Batch.outputBatchIn
+    Orders.receivedBits Orders.isUnexpected Orders.bySender Orders.byProposer Orders.arrivals Orders.handleEach
 opened = tt
