@@ -6,7 +6,7 @@ use mathlib.Core.Path.{_≡_, refl, sym, ap, _∙_}
 use mathlib.Core.List.{List, _++_}
 use mathlib.Core.Bool.{Bool, true, false, cond}
 use lib.Dec.{leb, ltb}
-use lib.ListN.{length, set, take, drop, replicate, length-take}
+use lib.ListN.{set, take, drop, replicate, length-take}
 use lib.Seq.{getD-set-other, take-set-lt, drop-set-lt, set-append-left, set-set, set-comm}
 use borrow.Author.Tests.{lt-leb, lt-ltb, le-ltb, leb-true, leb-false}
 use Rattle.subset.specs.Words.{epochLength}

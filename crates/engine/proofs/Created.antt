@@ -13,7 +13,7 @@ use Rattle.steps.specs.Table.{within}
 use Rattle.steps.proofs.Laws.{and-true}
 use Rattle.steps.proofs.Ranges.{and-both, zeros-at}
 use Rattle.subset.specs.Words.{epochLength}
-use Rattle.subset.proofs.Ranges.{limit-some, EpochOk}
+use Rattle.subset.proofs.Ranges.{limit-some}
 use Rattle.epoch.proofs.RangesWords.{all-every}
 use Rattle.engine.specs.Schedule.{scheduleOk, usedFirst, usedSecond}
 use Rattle.engine.specs.State.{headerLength, vacantAt, epochsAt, stateLength, lastEpoch, allHold, headerTests, headerInRange, epochWords, placeOf, stateOk}

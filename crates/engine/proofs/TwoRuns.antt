@@ -1,26 +1,21 @@
 -- DEMAND 3: the claim about two whole lists of calls, for any `Holds` that has the laws of Told.antt and Batches.antt, which are parameters here. Assumes nothing.
-use Prim.Native.Nat.{ℕ, _+_, _*_, _-_, _≤_}
+use Prim.Native.Nat.{ℕ, _-_}
 use native.Mathlib.Omega.{arith}
-use mathlib.Core.Path.{_≡_, refl, sym, ap, _∙_, subst, subst₃, fun-ext}
-use mathlib.Core.List.{List, [], _∷_}
+use mathlib.Core.Path.{_≡_, refl, sym, ap, subst, subst₃, fun-ext}
+use mathlib.Core.List.{List}
 use mathlib.Core.Bool.{Bool, true, false, cond}
 use mathlib.Core.Option.{Option, none}
-use lib.Dec.{eqb, leb, ltb}
-use lib.ListN.{getD, drop, replicate}
-use lib.Seq.{getD-append-add, getD-take, getD-drop}
-use borrow.Author.Tests.{eqb-true, eqb-false, eq-eqb, leb-true, ltb-true, lt-leb}
+use lib.Dec.{eqb, leb}
+use borrow.Author.Tests.{eqb-true, eqb-false, eq-eqb, lt-leb}
 use Rattle.steps.specs.declared.network_info.NetworkInfo.{NetworkInfo}
 use Rattle.steps.specs.Network.{Network}
-use Rattle.steps.specs.Table.{within}
 use Rattle.steps.specs.Taken.{orElse}
-use Rattle.steps.proofs.Laws.{and-true}
-use Rattle.subset.specs.Words.{epochLength}
 use Rattle.epoch.specs.declared.SubsetHandlingStrategy.{SubsetHandlingStrategy}
 use Rattle.epoch.specs.Words.{isVacant}
 use Rattle.epoch.proofs.Told.{EpochLaws}
 use Rattle.engine.specs.declared.EncryptionSchedule.the-variants.{Always, Never, EveryNthEpoch, TickTock}
 use Rattle.engine.specs.Schedule.{scheduleOf, usedFirst, usedSecond, useOnEpoch}
-use Rattle.engine.specs.State.{nodes, netOf, encryptedIn, placeOf, epochWords}
+use Rattle.engine.specs.State.{nodes, netOf, encryptedIn, epochWords}
 use Rattle.engine.specs.Create.{Numbers, numbersOk, created, createReply, createState}
 use Rattle.engine.specs.History.{Event, history, turns, noneFails, handed}
 use Rattle.engine.specs.Claim.{One, Made, historyOf, encryptedOf, Sound, TwoRuns}

@@ -5,7 +5,7 @@ use mathlib.Core.Bool.{Bool, true, false, cond, _&&_, not}
 use lib.ListN.{length, set, drop, replicate}
 use lib.Dec.{eqb, leb, ltb}
 use Rattle.steps.specs.Table.{handle, within, tableOk}
-use Rattle.steps.specs.Answers.{Rec, Tape, tapeOf}
+use Rattle.steps.specs.Answers.{Rec, tapeOf}
 use Rattle.steps.specs.Steps.{Entry, faults, written, writtenFailed}
 use Rattle.steps.specs.Runs.{Verdict, going, refused, failed, numberOf, Run}
 use Rattle.epoch.specs.declared.MessageContent.{MessageContent}

@@ -1,8 +1,8 @@
 -- The words of the engine's state (docs/STATE.md): a header of 16 words, and look-ahead + 1 epochs.
 use Prim.Native.Nat.{ℕ, zero, suc, _+_, _*_, _-_, _%_}
 use mathlib.Core.List.{List, [], _∷_, _++_}
-use mathlib.Core.Bool.{Bool, true, false, cond, _&&_, not}
-use lib.ListN.{length, getD, set, take, drop, replicate}
+use mathlib.Core.Bool.{Bool, true, cond, _&&_, not}
+use lib.ListN.{length, getD, take, drop, replicate}
 use lib.Dec.{eqb, leb, ltb}
 use Rattle.steps.specs.declared.network_info.NetworkInfo.{NetworkInfo}
 use Rattle.steps.specs.Table.{within}
