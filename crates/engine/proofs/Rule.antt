@@ -15,7 +15,7 @@ use Rattle.steps.specs.Taken.{orElse, isThere, isTrue, onesFrom}
 use Rattle.steps.proofs.Laws.{and-true}
 use Rattle.subset.specs.Words.{statusAt}
 use Rattle.subset.specs.Rule.{settledFrom, isOver}
-use Rattle.subset.proofs.Rule.{blank-over}
+use Rattle.subset.proofs.Rule.{new-over}
 use Rattle.subset.proofs.Votes.{voted-whole}
 use Rattle.epoch.specs.declared.SubsetHandlingStrategy.{SubsetHandlingStrategy}
 use Rattle.epoch.specs.declared.SubsetHandlingStrategy.the-variants.{Incremental, AllAtEnd}
@@ -92,7 +92,7 @@ known m s =
 module _ (net : NetworkInfo) (strategy : SubsetHandlingStrategy) (encrypted : Bool) (x : List ℕ) (v d t : ℕ → Option ℕ) where
   slot-complete : Network net → Slot Holds net strategy encrypted x v d t → isComplete x ≡ isOver net v d
   unfolding isOver
-  slot-complete k (vacant i a b c) = rw (eqb-true (getD x statusAt 0) 0 i, a, b) (sym (blank-over net k))
+  slot-complete k (vacant i a b c) = rw (eqb-true (getD x statusAt 0) 0 i, a, b) (sym (new-over net k))
   slot-complete k (lives there h) = go (h .stage)
     where
       go : Going net strategy x v d ⊎ Done net x v d → isComplete x ≡ isOver net v d

@@ -32,7 +32,8 @@ use Rattle.epoch.specs.declared.SubsetHandlingStrategy.{SubsetHandlingSt
 use Rattle.epoch.specs.declared.SubsetHandlingStrategy.the-variants.{Incremental, AllAtEnd}
 use Rattle.epoch.specs.declared.MessageContent.{MessageContent}
 use Rattle.epoch.specs.declared.MessageContent.the-variants.{Broadcast, Agreement, DecryptionShare}
-use Rattle.epoch.specs.Words.{isComplete, isAccepted, DecryptionState, missing, ongoing, complete, loadDecryption, storeDecryption}
+use Rattle.epoch.specs.Words.{isComplete, isAccepted, missing, complete, loadEntry, loadDecryption, storeDecryption}
+use Rattle.epoch.proofs.Shares.{by-entry, by-share}
 use Rattle.epoch.specs.Epoch.{firstContributions, unexpectedShares, handlesNow, subsetComplete, proposalDropped, entryAfter, processDecryption, callEntry, inputCiphertext, sendDecryptionShare, handleDecryptionShare, finishAt, finishFrom, handleContribution, handleFrom, handleContributions, processSubset, handedUp, callSubset, propose, handleMessageContent}
 use Rattle.epoch.proofs.Told.{shareOf, Told}
 use Rattle.epoch.proofs.Passes.{subsetKinds, subset-eight, entryKinds, entry-eight, outside-accepted, outside-record, Frame, share-runs, input-runs}
@@ -74,20 +75,16 @@ module _ (net : NetworkInfo) (p : ℕ) (w : List ℕ) (u : Tape) where
         times = past-times entryKinds 8 entry-eight (h .1);
       }))
 
-  entry-unasked : (d : DecryptionState) (call : ThresholdDecrypt → Tape → Run ThresholdDecrypt (Option ℕ)) → ((td : ThresholdDecrypt) → Past entryKinds (u .rest) (call td u .tape .rest))
-      → After (callEntry net d p w u call) (λ _ w′ z. Unasked w (u .rest) w′ (z .rest))
-  unfolding callEntry
-  entry-unasked missing call k = process-unasked (call new u) (k new)
-  entry-unasked (ongoing td) call k = process-unasked (call td u) (k td)
-  entry-unasked (complete x) call k = record { accepted = refl; times = λ q. refl }
+  entry-unasked : (call : ThresholdDecrypt → Tape → Run ThresholdDecrypt (Option ℕ)) → ((td : ThresholdDecrypt) → Past entryKinds (u .rest) (call td u .tape .rest))
+      → After (callEntry net p call w u) (λ _ w′ z. Unasked w (u .rest) w′ (z .rest))
+  entry-unasked call k =
+      by-entry net p w u (λ r. After r (λ _ w′ z. Unasked w (u .rest) w′ (z .rest))) call
+      (process-unasked (call (loadEntry (net .«num_nodes») w p) u) (k (loadEntry (net .«num_nodes») w p))) (record { accepted = refl; times = λ q. refl })
 
   share-unasked : (sender share : ℕ) → After (handleDecryptionShare net sender p share w u) (λ _ w′ z. Unasked w (u .rest) w′ (z .rest))
-  unfolding handleDecryptionShare
   share-unasked sender share =
-      after-cond (isComplete w) _ _ _ (after-cond (isAccepted w p) _ _ _ calls (record { accepted = refl; times = λ q. refl })) calls
-    where
-      calls : After (callEntry net (loadDecryption (net .«num_nodes») w p) p w u (handleShare net p sender share)) (λ _ w′ z. Unasked w (u .rest) w′ (z .rest))
-      calls = entry-unasked (loadDecryption (net .«num_nodes») w p) (handleShare net p sender share) (λ td. share-runs net p sender share td u .past)
+      by-share net p w u (λ r. After r (λ _ w′ z. Unasked w (u .rest) w′ (z .rest))) sender share (record { accepted = refl; times = λ q. refl })
+      (entry-unasked (handleShare net p sender share) (λ td. share-runs net p sender share td u .past))
 
 -- A CONTRIBUTION asks one 8, about its proposer
 abbrev Asks : Bool → ℕ → List Rec → List Rec → Type 0
@@ -103,8 +100,8 @@ module _ (net : NetworkInfo) (p value : ℕ) (w : List ℕ) (u : Tape) where
   send-asks =
       after-about u 8 w _ _ p (λ a b z r.
       after-cond (eqb a 0) _ _ _ (reads-one p u z r)
-      (after-map (callEntry net (loadDecryption (net .«num_nodes») w p) p w z (inputCiphertext net p value)) _ _
-      (entry-unasked net p w z (loadDecryption (net .«num_nodes») w p) (inputCiphertext net p value) (λ td. input-runs net p value td z .past)) (λ _ w′ y k q.
+      (after-map (callEntry net p (inputCiphertext net p value) w z) _ _
+      (entry-unasked net p w z (inputCiphertext net p value) (λ td. input-runs net p value td z .past)) (λ _ w′ y k q.
       reads-one p u z r q ∙ ap (λ x. once true (eqb p q) + x) (k .times q))))
 
   contribution-asks : (strategy : SubsetHandlingStrategy) (encrypted : Bool) → After (handleContribution net strategy encrypted p value w u) (λ _ w′ z. Asks encrypted p (u .rest) (z .rest))
@@ -244,9 +241,9 @@ module _ (net : NetworkInfo) (strategy : SubsetHandlingStrategy) (encrypted : Bo
       go refused e = rw e tt
       go (failed m) e = rw e tt
 
-  called-tallied : (s : Going net strategy w v d) (ws : List Rec) (done : Bool) (w₁ : List ℕ) (u : Tape) → Called (handledBy strategy v d) net v d ws done w₁ (u .rest) → Past subsetKinds ws (u .rest) → Frame nn w w₁
+  called-tallied : (comes : Bool) (s : Going net strategy w v d) (ws : List Rec) (done : Bool) (w₁ : List ℕ) (u : Tape) → Called (handledBy strategy v d) net comes v d ws done w₁ (u .rest) → Past subsetKinds ws (u .rest) → Frame nn w w₁
       → After (processSubset net strategy encrypted done w₁ u) (λ _ w′ z. Tallied encrypted nn w ws w′ (z .rest))
-  called-tallied s ws done w₁ u c past f =
+  called-tallied comes s ws done w₁ u c past f =
       after-map (processSubset net strategy encrypted done w₁ u) _ _
       (process-tallied net strategy encrypted (handledBy strategy v d) (c .v′) (c .d′) t done w₁ u (c .held) texts₁ (λ q l. bit q ∙ s .accepted q l))
       (λ _ w′ z p q l. unasked encrypted nn w ws w₁ (u .rest) (record { accepted = f acceptedAt (outside-accepted nn); times = past-times subsetKinds 8 subset-eight past }) q l ∙ p q l)
@@ -260,10 +257,10 @@ module _ (net : NetworkInfo) (strategy : SubsetHandlingStrategy) (encrypted : Bo
           (text-value encrypted (loadDecryption nn w₁ q) (isAccepted w q) (v q) (c .v′ q) (t q) (c .linked .grownV q)
           (text-words encrypted nn w w₁ q (isAccepted w q) (v q) (t q) (λ j a b. f (recordAt nn q j) (outside-record nn q j a (omega arith))) (h .texts q l)))
 
-  subset-tallied : (call : List ℕ → Tape → Run (List ℕ) Bool) → Subset net call → (u : Tape) → Good nn (u .rest)
+  subset-tallied : (comes : Bool) (call : List ℕ → Tape → Run (List ℕ) Bool) → Subset net comes call → (u : Tape) → Good nn (u .rest)
       → After (callSubset net strategy encrypted call w u) (λ _ w′ z. Tallied encrypted nn w (u .rest) w′ (z .rest))
   unfolding callSubset
-  subset-tallied call c u g = go (h .stage)
+  subset-tallied comes call c u g = go (h .stage)
     where
       go : Going net strategy w v d ⊎ Done net w v d → After (callSubset net strategy encrypted call w u) (λ _ w′ z. Tallied encrypted nn w (u .rest) w′ (z .rest))
       go (inl s) =
@@ -273,14 +270,14 @@ module _ (net : NetworkInfo) (strategy : SubsetHandlingStrategy) (encrypted : Bo
           (after-map (call w u) _ _
           (after-with (call w u) _ (λ w₁ z. Past subsetKinds (u .rest) (z .rest) × Frame nn w w₁) (c .orderly w u .past, c .orderly w u .state)
           (c .called (handledBy strategy v d) w v d (s .held) u g (s .undecided ∙ ap (λ x. cond x 1 0) (sym (s .over))))) (λ done w₁ z a.
-          called-tallied s (u .rest) done w₁ z (a .0) (a .1 .0) (a .1 .1)))))
+          called-tallied comes s (u .rest) done w₁ z (a .0) (a .1 .0) (a .1 .1)))))
       go (inr s) = rw (s .status) (λ q l. refl)
 
   handled-tallied : (sender p : ℕ) (content : MessageContent) (u : Tape) → Good nn (u .rest)
       → After (handleMessageContent net strategy encrypted sender p content w u) (λ _ w′ z. Tallied encrypted nn w (u .rest) w′ (z .rest))
   unfolding handleMessageContent
-  handled-tallied sender p Broadcast u g = subset-tallied (handleSubset net 23 1 p) (broadcasts net p) u g
-  handled-tallied sender p Agreement u g = subset-tallied (handleSubset net 23 2 p) (agrees net p) u g
+  handled-tallied sender p Broadcast u g = subset-tallied _ (handleSubset net 23 1 p) (broadcasts net p) u g
+  handled-tallied sender p Agreement u g = subset-tallied _ (handleSubset net 23 2 p) (agrees net p) u g
   handled-tallied sender p (DecryptionShare share) u g =
       after-map (handleDecryptionShare net sender p share w u) _ _ (share-unasked net p w u sender share) (λ _ w′ z k. unasked encrypted nn w (u .rest) w′ (z .rest) k)
 
@@ -291,7 +288,7 @@ module _ (net : NetworkInfo) (strategy : SubsetHandlingStrategy) (encrypted : Bo
       let two = reads-past serialised u 2 b z refl r in
       after-cond (eqb a 0) _ _ _ tt
       (after-map (callSubset net strategy encrypted (proposeSubset net 22) w z) _ _
-      (subset-tallied (proposeSubset net 22) (proposes net) z (past-good serialised nn two g)) (λ _ w′ y k q l.
+      (subset-tallied _ (proposeSubset net 22) (proposes net) z (past-good serialised nn two g)) (λ _ w′ y k q l.
       ap (λ x. once encrypted (isAccepted w q) + x) (past-times serialised 8 (λ k e. rw (eqb-true k 2 e)) two q) ∙ k q l)))
     where
       serialised : ℕ → Bool
@@ -348,9 +345,9 @@ pub record Counted (net : NetworkInfo) (strategy : SubsetHandlingStrategy) (encr
   pub eights : (q : ℕ) → q < net .«num_nodes» → eightsOf net strategy encrypted v d q + timesAsked 8 q ws ≡ eightsOf net strategy encrypted v′ d′ q + timesAsked 8 q r
 
 module _ (net : NetworkInfo) (strategy : SubsetHandlingStrategy) (encrypted : Bool) (w : List ℕ) (v d t : ℕ → Option ℕ) (h : Holds net strategy encrypted w v d t) where
-  counted : (who : Option ℕ) (ws : List Rec) (w′ : List ℕ) (r : List Rec) → Told Holds net strategy encrypted v d t who ws w′ r → Tallied encrypted (net .«num_nodes») w ws w′ r
+  counted : (who : Option ℕ) (comes : Bool) (ws : List Rec) (w′ : List ℕ) (r : List Rec) → Told Holds net strategy encrypted v d t who comes ws w′ r → Tallied encrypted (net .«num_nodes») w ws w′ r
       → Counted net strategy encrypted v d ws r
-  counted who ws w′ r k a = record {
+  counted who comes ws w′ r k a = record {
     v′ = k .v′;
     d′ = k .d′;
     value = k .value;
@@ -362,11 +359,11 @@ module _ (net : NetworkInfo) (strategy : SubsetHandlingStrategy) (encrypted : Bo
   proposed-counted u g =
       let run = propose net strategy encrypted w u in
       after-map run _ _ (after-both run _ _ (proposed-ok net strategy encrypted w v d t h u g) (proposed-tallied net strategy encrypted w v d t h u g)) (λ _ w′ z k.
-      counted none (u .rest) w′ (z .rest) (k .0) (k .1))
+      counted none _ (u .rest) w′ (z .rest) (k .0) (k .1))
 
   pub handled-counted : (sender p : ℕ) (content : MessageContent) → p < net .«num_nodes» → (u : Tape) → Good (net .«num_nodes») (u .rest)
       → After (handleMessageContent net strategy encrypted sender p content w u) (λ _ w′ z. Counted net strategy encrypted v d (u .rest) (z .rest))
   handled-counted sender p content l u g =
       let run = handleMessageContent net strategy encrypted sender p content w u in
       after-map run _ _ (after-both run _ _ (handled-ok net strategy encrypted w v d t h sender p content l u g) (handled-tallied net strategy encrypted w v d t h sender p content u g)) (λ _ w′ z k.
-      counted (shareOf p content) (u .rest) w′ (z .rest) (k .0) (k .1))
+      counted (shareOf p content) _ (u .rest) w′ (z .rest) (k .0) (k .1))

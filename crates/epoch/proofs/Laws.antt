@@ -28,7 +28,7 @@ use Rattle.subset.specs.Rule.{isOver, settledFrom, proposing, broadcasting, agr
 use Rattle.subset.proofs.After.{After, after-map, after-cond, after-onward}
 use Rattle.subset.proofs.Calls.{Called, call-ok}
 use Rattle.subset.proofs.Votes.{untold-same, untold-past, Voted, voted-still, voted-done, voted-after, voted-before}
-use Rattle.subset.proofs.Rule.{blank-over, blank-word, blank-held}
+use Rattle.subset.proofs.Rule.{new-over, new-word, new-held}
 use Rattle.subset.proofs.Held.{Held}
 use Rattle.subset.proofs.Taken.{put-same, put-other, more, settled-decided}
 use Rattle.epoch.specs.declared.SubsetHandlingStrategy.{SubsetHandlingStrategy}
@@ -280,13 +280,13 @@ unfolding newEpoch loadDecryption
 fresh-holds net strategy encrypted k = record {
   size = held .size;
   texts = λ q l.
-      rw (none-accepted (newEpoch n) (blank-word n acceptedAt (λ e. omega arith)) q, blank-word n (decryptionAt n q) (λ e. omega arith)) (none-text encrypted);
+      rw (none-accepted (newEpoch n) (new-word n acceptedAt (λ e. omega arith)) q, new-word n (decryptionAt n q) (λ e. omega arith)) (none-text encrypted);
   stage = inl (record {
     status = getD-set-same (replicate (epochLength n) 0) statusAt 1 0 (omega (arith, length-replicate {A = ℕ} (epochLength n) 0));
-    undecided = blank-word n decidedAt (λ e. omega arith);
-    over = blank-over net k;
+    undecided = new-word n decidedAt (λ e. omega arith);
+    over = new-over net k;
     held = held;
-    accepted = λ q l. none-accepted (newEpoch n) (blank-word n acceptedAt (λ e. omega arith)) q ∙ sym (none-handled strategy q);
+    accepted = λ q l. none-accepted (newEpoch n) (new-word n acceptedAt (λ e. omega arith)) q ∙ sym (none-handled strategy q);
   });
 }
   where
@@ -294,7 +294,7 @@ fresh-holds net strategy encrypted k = record {
     n = net .«num_nodes»
 
     held : Held (handledBy strategy nothing nothing) (net .«num_nodes») (newEpoch (net .«num_nodes»)) nothing nothing
-    held = blank-held (handledBy strategy nothing nothing) (none-handled strategy) (net .«num_nodes»)
+    held = new-held (handledBy strategy nothing nothing) (none-handled strategy) (net .«num_nodes»)
 
 -- AN EPOCH THAT IS READY
 settled-at : (n m p : ℕ) (w : List ℕ) → decryptedFrom (recordLength n) m p w ≡ true → (q : ℕ) → p ≤ q → q < p + m → isAccepted w q ≡ true

@@ -3,7 +3,7 @@ use Prim.Native.Nat.{ℕ, zero, suc, _+_, _-_}
 use native.Mathlib.Omega.{arith}
 use mathlib.Core.Path.{_≡_}
 use mathlib.Core.List.{List}
-use mathlib.Core.Bool.{Bool, true, false, cond}
+use mathlib.Core.Bool.{Bool, true, false, cond, _||_}
 use mathlib.Core.Option.{Option, none, some}
 use lib.ListN.{getD, set}
 use lib.Dec.{eqb, ltb}
@@ -16,9 +16,9 @@ use Rattle.steps.specs.Runs.{Verdict, going, refused, failed, Run, inside, onwa
 use Rattle.decryption.specs.declared.ThresholdDecrypt.{ThresholdDecrypt}
 use Rattle.decryption.specs.Decrypt.{new}
 use Rattle.subset.specs.declared.ProposalState.{ProposalState}
-use Rattle.subset.specs.Words.{statusAt, decidedAt, acceptedAt, countAt, proposalAt, valueAt, arrivalAt, tagOf, valueOf, loadProposal, storeProposal, addContribution, dropFrom}
+use Rattle.subset.specs.Words.{isDecided, statusAt, decidedAt, acceptedAt, countAt, proposalAt, valueAt, arrivalAt, tagOf, valueOf, loadProposal, storeProposal, addContribution, dropFrom}
 use Rattle.subset.specs.Proposal.{asksAgreement, asksBroadcast}
-use Rattle.subset.specs.Subset.{completeFrom, countAccepted, contributed, atProposal, broadcastAt, agreementAt, voteFrom, votes, tryOutput, propose as proposeSubset, handleMessage as handleSubset}
+use Rattle.subset.specs.Subset.{allComplete, countAccepted, contributed, atProposal, broadcastAt, agreementAt, voteFrom, votes, tryOutput, propose as proposeSubset, handleMessage as handleSubset}
 use Rattle.epoch.specs.declared.SubsetHandlingStrategy.{SubsetHandlingStrategy}
 use Rattle.epoch.specs.declared.MessageContent.{MessageContent}
 use Rattle.epoch.specs.declared.MessageContent.the-variants.{Broadcast, Agreement, DecryptionShare}
@@ -57,10 +57,10 @@ module _ (P : List ℕ → Type 0) (other : (w : List ℕ) (i x : ℕ) → (i �
     unfolding storeProposal
     keeps-proposal w p s h = other (set w (proposalAt n p) (tagOf s)) (valueAt n p) (valueOf s) (λ e. omega arith) (other w (proposalAt n p) (tagOf s) (λ e. omega arith) h)
 
-    keeps-contributed : (p : ℕ) (o : Option ℕ) (w : List ℕ) → P w → P (contributed n p o w)
+    keeps-contributed : (w : List ℕ) (p : ℕ) (o : Option ℕ) → P w → P (contributed n w p o)
     unfolding contributed addContribution
-    keeps-contributed p none w h = h
-    keeps-contributed p (some value) w h = go (ltb (getD w countAt 0) n)
+    keeps-contributed w p none h = h
+    keeps-contributed w p (some value) h = go (ltb (getD w countAt 0) n)
       where
         go : (t : Bool) → P (cond t (set (set (set w (arrivalAt n (getD w countAt 0)) p) (valueAt n p) value) countAt (getD w countAt 0 + 1)) w)
         go true = other _ countAt _ (λ e. omega arith) (other _ (valueAt n p) value (λ e. omega arith) (other w (arrivalAt n (getD w countAt 0)) p (λ e. omega arith) h))
@@ -110,7 +110,7 @@ module _ (P : List ℕ → Type 0) (other : (w : List ℕ) (i x : ℕ) → (i �
     keeps-at : (p : ℕ) (w : List ℕ) (r : Run ProposalState (Option ℕ)) → P w → P (atProposal net error p w r .state)
     unfolding atProposal
     keeps-at p w r h =
-        keeps-onward (inside (storeProposal (net .«num_nodes») w p) r) _ (keeps-proposal (net .«num_nodes») w p (r .state) h) (λ value w q h. keeps-contributed (net .«num_nodes») p value w h)
+        keeps-onward (inside (storeProposal (net .«num_nodes») w p) r) _ (keeps-proposal (net .«num_nodes») w p (r .state) h) (λ value w q h. keeps-contributed (net .«num_nodes») w p value h)
 
     keeps-broadcast : (kind p : ℕ) (w : List ℕ) (t : Tape) → P w → P (broadcastAt net error kind p w t .state)
     unfolding broadcastAt
@@ -128,11 +128,9 @@ module _ (P : List ℕ → Type 0) (other : (w : List ℕ) (i x : ℕ) → (i �
     keeps-try : (w : List ℕ) (t : Tape) → P w → P (tryOutput net error w t .state)
     unfolding tryOutput votes
     keeps-try w t h =
-        keeps-cond (eqb (getD w decidedAt 0) 0) _ _
-        (keeps-cond (ltb (countAccepted (net .«num_nodes») w) (numCorrect net)) _ _ h
+        keeps-cond (isDecided w || ltb (countAccepted (net .«num_nodes») w) (numCorrect net)) _ _ h
         (keeps-onward (votes net error w t) _ (keeps-cond (eqb (countAccepted (net .«num_nodes») w) (numCorrect net)) _ _ (keeps-votes (net .«num_nodes») 0 w t h) h)
-        (λ _ w q h. keeps-cond (completeFrom (net .«num_nodes») (net .«num_nodes») 0 w) _ _ (other w decidedAt 1 (λ e. omega arith) h) h)))
-        h
+        (λ _ w q h. keeps-cond (allComplete (net .«num_nodes») w) _ _ (other w decidedAt 1 (λ e. omega arith) h) h))
 
     keeps-propose-subset : (w : List ℕ) (t : Tape) → P w → P (proposeSubset net error w t .state)
     unfolding proposeSubset

@@ -185,8 +185,8 @@ module _ (set : ℕ) (is : ProposalState → Bool) (means : Means set is) where
     unfolding loadProposal
     at-means p = tag-means (getD w (proposalAt n p) 0) (getD w (valueAt n p) 0)
 
-    counted : (m i : ℕ) → countIf (λ p. tagIn set (getD w (fieldAt (recordLength n) p proposalField) 0)) m i ≡ countFrom n is m i w
-    unfolding countIf countFrom
+    counted : (m i : ℕ) → countIf (λ p. tagIn set (getD w (fieldAt (recordLength n) p proposalField) 0)) m i ≡ countFrom (recordLength n) is m i w
+    unfolding countIf countFrom loadProposal
     counted zero i = refl
     counted (suc m) i = rw (at-means i, counted m (i + 1))
 
@@ -200,7 +200,7 @@ module _ (set : ℕ) (is : ProposalState → Bool) (means : Means set is) where
     proposals-below = bits-below _ n
 
     -- and its ones are as many as they are
-    pub proposals-ones : ones (proposalsIn (recordLength n) set n w) ≡ countFrom n is n 0 w
+    pub proposals-ones : ones (proposalsIn (recordLength n) set n w) ≡ countFrom (recordLength n) is n 0 w
     unfolding proposalsIn
     proposals-ones = bits-ones _ n ∙ counted n 0
 
@@ -213,8 +213,8 @@ module _ (n : ℕ) (w : List ℕ) where
   received-ones = proposals-ones receivedTags received received-means n w
 
   -- all are complete where the incomplete ones are none
-  pub incomplete-none : eqb (proposalsIn (recordLength n) incompleteTags n w) 0 ≡ completeFrom n n 0 w
-  unfolding proposalsIn bitsFrom completeFrom
+  pub incomplete-none : eqb (proposalsIn (recordLength n) incompleteTags n w) 0 ≡ completeFrom (recordLength n) n 0 w
+  unfolding proposalsIn bitsFrom completeFrom loadProposal
   incomplete-none = go n 0
     where
       not-not : (x : Bool) → not (not x) ≡ x
@@ -227,6 +227,6 @@ module _ (n : ℕ) (w : List ℕ) where
       over : (p : ℕ) → not (tags p) ≡ complete (loadProposal n w p)
       over p = ap not (at-means incompleteTags _ incomplete-means n w p) ∙ not-not _
 
-      go : (m i : ℕ) → eqb (bitsFrom tags m i) 0 ≡ completeFrom n m i w
+      go : (m i : ℕ) → eqb (bitsFrom tags m i) 0 ≡ completeFrom (recordLength n) m i w
       go zero i = refl
       go (suc m) i = bit-none (tags i) i (bitsFrom tags m (i + 1)) ∙ ap₂ (λ (x y : Bool). x && y) (over i) (go m (i + 1))

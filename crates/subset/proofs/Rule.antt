@@ -19,7 +19,7 @@ use Rattle.steps.specs.Runs.{Verdict, going, refused, failed}
 use Rattle.steps.proofs.Laws.{and-true}
 use Rattle.steps.proofs.Chains.{orElse-none, orElse-assoc, Bit, table-good}
 use Rattle.subset.specs.Words.{newEpoch, epochLength, decidedAt, countAt, proposalAt, valueAt, arrivalAt, proposalOf, loadProposal}
-use Rattle.subset.specs.Rule.{settledFrom, isOver, SubsetEvent, answers, tablesOk, takenBy, callSubset, wordsAs, thenWords, wordsAfter, blank, Contribution, contributionsFrom, contributions, speaks, SubsetRule}
+use Rattle.subset.specs.Rule.{settledFrom, isOver, SubsetEvent, answers, tablesOk, takenBy, callSubset, wordsAs, thenWords, wordsAfter, Contribution, contributionsFrom, contributions, speaks, SubsetRule}
 use Rattle.subset.proofs.After.{AfterAs}
 use Rattle.subset.proofs.Proposals.{outputOf}
 use Rattle.subset.proofs.Counts.{countIf}
@@ -163,39 +163,39 @@ unfolding settledFrom isThere
 unsettled zero p h = absurd (omega arith)
 unsettled (suc m) p h = refl
 
-pub blank-over : (net : NetworkInfo) → Network net → isOver net nothing nothing ≡ false
+pub new-over : (net : NetworkInfo) → Network net → isOver net nothing nothing ≡ false
 unfolding isOver
-blank-over net k = rw (unsettled (net .«num_nodes») 0 (k .some))
+new-over net k = rw (unsettled (net .«num_nodes») 0 (k .some))
 
-pub blank-word : (n i : ℕ) → (i ≡ 0 → ⊥) → getD (blank n) i 0 ≡ 0
+pub new-word : (n i : ℕ) → (i ≡ 0 → ⊥) → getD (newEpoch n) i 0 ≡ 0
 unfolding newEpoch
-blank-word n i ne = getD-set-other (replicate (epochLength n) 0) 0 i 1 0 ne ∙ zeros (epochLength n) i
+new-word n i ne = getD-set-other (replicate (epochLength n) 0) 0 i 1 0 ne ∙ zeros (epochLength n) i
 
-pub blank-held : (old : ℕ → Bool) → ((q : ℕ) → old q ≡ false) → (n : ℕ) → Held old n (blank n) nothing nothing
+pub new-held : (old : ℕ → Bool) → ((q : ℕ) → old q ≡ false) → (n : ℕ) → Held old n (newEpoch n) nothing nothing
 unfolding newEpoch loadProposal proposalOf isThere Bit
-blank-held old f n = record {
+new-held old f n = record {
   size = length-set (replicate (epochLength n) 0) 0 1 ∙ length-replicate (epochLength n) 0;
-  load = λ q l. rw (blank-word n (proposalAt n q) (λ e. omega arith));
+  load = λ q l. rw (new-word n (proposalAt n q) (λ e. omega arith));
   bits = λ q. tt;
-  count = blank-word n countAt (λ e. omega arith) ∙ sym (count-none old n 0);
+  count = new-word n countAt (λ e. omega arith) ∙ sym (count-none old n 0);
   gone = λ q t. absurd (false≢true (sym (f q) ∙ t));
   listed = λ q l t f. absurd (false≢true t);
-  entries = λ i q l e. absurd (omega (arith, blank-word n countAt (λ e. omega arith)));
-  once = λ i j l r e. absurd (omega (arith, blank-word n countAt (λ e. omega arith)));
-  fresh = λ i l. f (getD (blank n) (arrivalAt n i) 0);
+  entries = λ i q l e. absurd (omega (arith, new-word n countAt (λ e. omega arith)));
+  once = λ i j l r e. absurd (omega (arith, new-word n countAt (λ e. omega arith)));
+  fresh = λ i l. f (getD (newEpoch n) (arrivalAt n i) 0);
 }
 
-blank-known : (net : NetworkInfo) → Network net → Known net (blank (net .«num_nodes»)) nothing nothing
-blank-known net k = record {
-  held = blank-held none-old (λ q. refl) (net .«num_nodes»);
-  decided = blank-word (net .«num_nodes») decidedAt (λ e. omega arith) ∙ sym (rw (blank-over net k));
+new-known : (net : NetworkInfo) → Network net → Known net (newEpoch (net .«num_nodes»)) nothing nothing
+new-known net k = record {
+  held = new-held none-old (λ q. refl) (net .«num_nodes»);
+  decided = new-word (net .«num_nodes») decidedAt (λ e. omega arith) ∙ sym (rw (new-over net k));
 }
 
--- after any run from the blank epoch
+-- after any run from a new epoch
 taken-known : (net : NetworkInfo) (h : List SubsetEvent) (w : List ℕ) → Network net → tablesOk (net .«num_nodes») h ≡ true
-    → wordsAfter net (blank (net .«num_nodes»)) h ≡ some w → Known net w (takenBy ofValue h) (takenBy ofDecision h)
+    → wordsAfter net (newEpoch (net .«num_nodes»)) h ≡ some w → Known net w (takenBy ofValue h) (takenBy ofDecision h)
 unfolding orElse
-taken-known net h w k t e = run-known net h (blank (net .«num_nodes»)) nothing nothing w (blank-known net k) t e
+taken-known net h w k t e = run-known net h (newEpoch (net .«num_nodes»)) nothing nothing w (new-known net k) t e
 
 -- THE CONTRIBUTIONS
 abbrev entry : ℕ → List ℕ → ℕ → Contribution
@@ -266,7 +266,7 @@ module _ (net : NetworkInfo) (w : List ℕ) (v d : ℕ → Option ℕ) (k : Know
 pub subset-rule : SubsetRule
 subset-rule net h x w k t e =
     let ts = tables-split (net .«num_nodes») h x t in
-    let s = run-split net h (blank (net .«num_nodes»)) x w e in
+    let s = run-split net h (newEpoch (net .«num_nodes»)) x w e in
     let known = taken-known net h (s .between) k (ts .0) (s .first) in
     let next = one-call net (s .between) (takenBy ofValue h) (takenBy ofDecision h) x w known (ts .1) (s .last) in
     let all : Known net w (takenBy ofValue (h ++ (x ∷ []))) (takenBy ofDecision (h ++ (x ∷ []))) =

@@ -8,15 +8,10 @@ use native.Mathlib.Omega.{arith}
 use lib.ListN.{getD}
 use Rattle.steps.specs.declared.network_info.NetworkInfo.{NetworkInfo}
 use Rattle.steps.specs.Network.{Network}
-use Rattle.steps.specs.Answers.{link, recAt, onRecord, walk, chain, askFor, askAbout}
-use Rattle.steps.specs.Table.{recordOk, contextAfter, mayFollow, chainOk, shapeOk, tableOk}
-use Rattle.steps.specs.Runs.{onwardAs, onward, heardAs, heard}
-use Rattle.steps.specs.Parts.{isPart, partEntries, outputOf, lastOf, lastOutput, partsFrom}
-use Rattle.steps.specs.Taken.{orElse, isTrue, lastOutputIn, firstTaken, ofValue, ofDecision, asked, onesFrom}
-use Rattle.subset.specs.Words.{newEpoch, decidedAt, proposalOf, tagOf, valueOf, loadProposal, storeProposal, addContribution}
-use Rattle.subset.specs.Proposal.{accepted, complete, afterAgreement, afterBroadcast, asksAgreement, asksBroadcast, instanceAnswer, handleAgreement, voteTrue, afterValue, handleBroadcast}
-use Rattle.subset.specs.Subset.{countFrom, completeFrom, contributed, atProposal, broadcastAt, agreementAt, voteFrom, votes, tryOutput, propose, handleMessage}
-use Rattle.subset.specs.Rule.{SubsetCall, SubsetEvent, proposing, broadcasting, agreeing, answers, tablesOk, takenBy, callSubset, wordsAs, thenWords, wordsAfter, blank, Contribution, contributionsFrom, contributions, decidedBefore7, speaks}
+use Rattle.steps.specs.Taken.{firstTaken, ofValue, ofDecision, asked, onesFrom}
+use Rattle.subset.specs.Words.{newEpoch, decidedAt}
+use Rattle.subset.specs.Opened.{opened}
+use Rattle.subset.specs.Rule.{SubsetCall, SubsetEvent, proposing, broadcasting, agreeing, answers, tablesOk, takenBy, callSubset, wordsAs, thenWords, wordsAfter, Contribution, contributionsFrom, contributions, decidedBefore7, speaks}
 
 abbrev four : NetworkInfo
 four = record { «num_nodes» = 4; «num_faulty» = 1; «our_id» = 0; «has_key» = true }
@@ -46,22 +41,22 @@ abbrev seen : Option (List ℕ) → Option (ℕ × List Contribution)
 seen none = none
 seen (some w) = some (getD w decidedAt 0, contributions 4 w)
 
-pub four-run : seen (wordsAfter four (blank 4) (earlier ++ (third ∷ []))) ≡ some (1, contribution 0 7 ∷ contribution 1 8 ∷ contribution 2 9 ∷ [])
-unfolding link recAt onRecord walk chain askFor askAbout onwardAs onward heardAs heard isPart partEntries outputOf lastOf lastOutput partsFrom newEpoch proposalOf tagOf valueOf loadProposal storeProposal addContribution accepted complete afterAgreement afterBroadcast asksAgreement asksBroadcast instanceAnswer handleAgreement voteTrue afterValue handleBroadcast countFrom completeFrom contributed atProposal broadcastAt agreementAt voteFrom votes tryOutput propose handleMessage callSubset wordsAs thenWords wordsAfter contributionsFrom
+pub four-run : seen (wordsAfter four (newEpoch 4) (earlier ++ (third ∷ []))) ≡ some (1, contribution 0 7 ∷ contribution 1 8 ∷ contribution 2 9 ∷ [])
+unfolding opened callSubset wordsAs thenWords wordsAfter contributionsFrom
 four-run = refl
 
 pub four-network : Network four
 four-network = record { some = omega arith; sixteen = omega arith; faulty = omega arith; own = omega arith }
 
 pub four-tables : tablesOk 4 (earlier ++ (third ∷ [])) ≡ true
-unfolding recordOk contextAfter mayFollow chainOk shapeOk tableOk tablesOk
+unfolding opened tablesOk
 four-tables = refl
 
 -- vote 1 for proposer 2 and vote 0 for proposer 3 are asked for, and the rule's tests of them
 pub four-votes : (asked 6 2 (answers third) ≡ true) × (firstTaken ofValue 2 (answers third) ≡ some 9) × (takenBy ofDecision earlier 2 ≡ none)
     × (asked 7 3 (answers third) ≡ true) × (onesFrom (decidedBefore7 earlier third) 4 0 ≡ 3) × (decidedBefore7 earlier third 3 ≡ none)
     × (asked 7 2 (answers third) ≡ false) × (decidedBefore7 earlier third 2 ≡ some 1)
-unfolding link recAt onRecord walk chain isPart orElse isTrue lastOutputIn firstTaken asked onesFrom takenBy
+unfolding opened takenBy
 four-votes = (refl, refl, refl, refl, refl, refl, refl, refl)
 
 -- CALLS THAT ASK NOTHING. A broadcast message in HasValue, an agreement message in Accepted, either in Complete; and no vote 1 for a value
@@ -87,8 +82,8 @@ silent =
     ∷ with (agreeing 1) nothing
     ∷ []
 
-pub silent-run : seen (wordsAfter four (blank 4) silent) ≡ some (0, contribution 1 8 ∷ [])
-unfolding link recAt onRecord walk chain askFor askAbout onwardAs onward heardAs heard isPart partEntries outputOf lastOf lastOutput partsFrom proposalOf tagOf valueOf loadProposal storeProposal addContribution accepted complete afterAgreement afterBroadcast asksAgreement asksBroadcast instanceAnswer handleAgreement voteTrue afterValue handleBroadcast countFrom completeFrom contributed atProposal broadcastAt agreementAt voteFrom votes tryOutput propose handleMessage callSubset wordsAs thenWords wordsAfter contributionsFrom
+pub silent-run : seen (wordsAfter four (newEpoch 4) silent) ≡ some (0, contribution 1 8 ∷ [])
+unfolding opened callSubset wordsAs thenWords wordsAfter contributionsFrom
 silent-run = refl
 
 -- AN OBSERVER'S PROPOSE asks nothing, N−f ones and an undecided agreement notwithstanding
@@ -102,11 +97,11 @@ observed =
     ∷ with (agreeing 2) (1 ∷ 0 ∷ 0 ∷ 0 ∷ 2 ∷ 5 ∷ 1 ∷ 2 ∷ 3 ∷ 18 ∷ 0 ∷ 1 ∷ 0 ∷ 7 ∷ 1 ∷ 3 ∷ [])
     ∷ []
 
-pub observer-run : seen (wordsAfter observing (blank 4) (observed ++ (with proposing nothing ∷ []))) ≡ some (0, [])
-unfolding link recAt onRecord walk chain askFor askAbout onwardAs onward heardAs heard isPart partEntries outputOf lastOf lastOutput partsFrom proposalOf tagOf valueOf loadProposal storeProposal addContribution accepted complete afterAgreement afterBroadcast asksAgreement asksBroadcast instanceAnswer handleAgreement voteTrue afterValue handleBroadcast countFrom completeFrom contributed atProposal broadcastAt agreementAt voteFrom votes tryOutput propose handleMessage callSubset wordsAs thenWords wordsAfter contributionsFrom
+pub observer-run : seen (wordsAfter observing (newEpoch 4) (observed ++ (with proposing nothing ∷ []))) ≡ some (0, [])
+unfolding opened callSubset wordsAs thenWords wordsAfter contributionsFrom
 observer-run = refl
 
 pub observer-votes : (asked 7 3 (answers (with proposing nothing)) ≡ false) × (speaks observing proposing ≡ false)
     × (onesFrom (decidedBefore7 observed (with proposing nothing)) 4 0 ≡ 3) × (decidedBefore7 observed (with proposing nothing) 3 ≡ none)
-unfolding link recAt onRecord walk chain isPart orElse isTrue lastOutputIn firstTaken asked onesFrom takenBy speaks
+unfolding opened takenBy speaks
 observer-votes = (refl, refl, refl, refl)

@@ -1,8 +1,8 @@
 -- A proposal, after proposal_state.rs. `error` is the number that the caller gives a failure, 22 or 23.
 use Prim.Native.Nat.{ℕ, zero, suc}
-use mathlib.Core.Bool.{Bool, true, false, cond, _||_}
+use mathlib.Core.Bool.{Bool, true, false, cond}
 use mathlib.Core.Option.{Option, none, some}
-use lib.Dec.{eqb, leb}
+use lib.Dec.{eqb}
 use Rattle.steps.specs.declared.reader.Content.{Content}
 use Rattle.steps.specs.declared.reader.Content.the-variants.{Broadcast, Agreement}
 use Rattle.steps.specs.declared.reader.Output.{Output}
@@ -12,19 +12,27 @@ use Rattle.steps.specs.Runs.{going, failed, Run, ends, onward, heard}
 use Rattle.steps.specs.Parts.{readParts}
 use Rattle.subset.specs.declared.ProposalState.{ProposalState}
 use Rattle.subset.specs.declared.ProposalState.the-variants.{Ongoing, HasValue, Accepted, Complete}
-use Rattle.subset.specs.Words.{tagHasValue, tagAccepted, tagCompleteFalse, tagCompleteTrue}
 
--- THREE TESTS of a proposal, by its tag: the value is here, or was output
-unfoldable pub received : ℕ → Bool
-received tag = eqb tag tagHasValue || leb tagCompleteTrue tag
+-- the value is here, or was output
+unfoldable pub received : ProposalState → Bool
+received Ongoing = false
+received Accepted = false
+received (HasValue v) = true
+received (Complete b) = b
 
 -- the agreement has decided 1, whether the value is here or not
-unfoldable pub accepted : ℕ → Bool
-accepted tag = eqb tag tagAccepted || leb tagCompleteTrue tag
+unfoldable pub accepted : ProposalState → Bool
+accepted Ongoing = false
+accepted (HasValue v) = false
+accepted Accepted = true
+accepted (Complete b) = b
 
 -- rejected, or accepted and output
-unfoldable pub complete : ℕ → Bool
-complete tag = leb tagCompleteFalse tag
+unfoldable pub complete : ProposalState → Bool
+complete Ongoing = false
+complete (HasValue v) = false
+complete Accepted = false
+complete (Complete b) = true
 
 -- a proposal's state and the value that it outputs, if it does
 pub record Moved : Type 0 where

@@ -74,10 +74,6 @@ module _ (net : NetworkInfo) where
       let r = callSubset (x .call) w (tapeOf (x .table)) in
       thenWords (wordsAs (r .verdict) (r .tape .rest) (r .state)) (λ w. wordsAfter w xs)
 
--- an epoch of which nothing is known yet
-abbrev pub blank : ℕ → List ℕ
-blank n = newEpoch n
-
 -- a contribution, and those that have been handed up
 pub record Contribution : Type 0 where
   pub proposer : ℕ
@@ -129,4 +125,4 @@ abbrev pub SubsetRule : Type 0
 SubsetRule =
     (net : NetworkInfo) (h : List SubsetEvent) (x : SubsetEvent) (w : List ℕ) → Network net
     → tablesOk (net .«num_nodes») (h ++ (x ∷ [])) ≡ true
-    → wordsAfter net (blank (net .«num_nodes»)) (h ++ (x ∷ [])) ≡ some w → PaperRule net h x w
+    → wordsAfter net (newEpoch (net .«num_nodes»)) (h ++ (x ∷ [])) ≡ some w → PaperRule net h x w

@@ -15,8 +15,8 @@ use Rattle.subset.specs.Proposal.{received, accepted, complete, asksAgre
 
 -- In words whose records have `size` words each
 module _ (size : ℕ) where
-  -- how many of the next m proposals, from proposer p on, are so by their tag
-  unfoldable pub countFrom : (ℕ → Bool) → ℕ → ℕ → List ℕ → ℕ
+  -- how many of the next m proposals, from proposer p on, are so
+  unfoldable pub countFrom : (ProposalState → Bool) → ℕ → ℕ → List ℕ → ℕ
   countFrom is zero p w = 0
   countFrom is (suc m) p w = cond (is (proposalIn size w p)) 1 0 + countFrom is m (p + 1) w
 

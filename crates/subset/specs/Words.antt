@@ -86,10 +86,6 @@ arrivalAt n i = recordAt n i arrivalField
 abbrev pub contributor : ℕ → List ℕ → ℕ → ℕ
 contributor n w i = getD w (arrivalAt n i) 0
 
--- the tag of a proposal where a record has `size` words
-abbrev pub proposalIn : ℕ → List ℕ → ℕ → ℕ
-proposalIn size w p = getD w (fieldAt size p proposalField) 0
-
 -- A PROPOSAL in its two words: the tag, and the value
 abbrev pub tagOngoing : ℕ
 tagOngoing = 0
@@ -126,8 +122,12 @@ valueOf (HasValue v) = v
 valueOf Accepted = 0
 valueOf (Complete b) = 0
 
+-- the proposal of p, where a record has `size` words
+abbrev pub proposalIn : ℕ → List ℕ → ℕ → ProposalState
+proposalIn size w p = proposalOf (getD w (fieldAt size p proposalField) 0) (getD w (fieldAt size p valueField) 0)
+
 unfoldable pub loadProposal : ℕ → List ℕ → ℕ → ProposalState
-loadProposal n w p = proposalOf (getD w (proposalAt n p) 0) (getD w (valueAt n p) 0)
+loadProposal n w p = proposalIn (recordLength n) w p
 
 unfoldable pub storeProposal : ℕ → List ℕ → ℕ → ProposalState → List ℕ
 storeProposal n w p s = set (set w (proposalAt n p) (tagOf s)) (valueAt n p) (valueOf s)
