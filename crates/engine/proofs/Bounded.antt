@@ -26,9 +26,10 @@ use Rattle.epoch.specs.Epoch.{newEpoch}
 use Rattle.epoch.specs.Batch.{isReady, outputBatch}
 use Rattle.epoch.proofs.Bounded.{batch-writes, propose-writes, content-writes}
 use Rattle.subset.proofs.Bounded.{Writes}
-use Rattle.engine.specs.State.{headerLength, lastEpoch, headerInRange, nodesAt, aheadAt, epochAt, inputAt, nodes, ahead, currentEpoch, netOf, placeOf, epochWords, withEpoch, withoutEpoch, stateOk}
+use Rattle.engine.specs.State.{headerLength, headerTests, nodesAt, aheadAt, epochAt, inputAt, nodes, ahead, currentEpoch, netOf, placeOf, epochWords, withEpoch, withoutEpoch, stateOk}
 use Rattle.engine.specs.HoneyBadger.{updateEpoch, epochStateMut, inEpoch, tryOutputBatches, propose, handleMessage}
-use Rattle.engine.proofs.RangesState.{header-ok, enter}
+use Rattle.engine.proofs.Window.{header-first}
+use Rattle.engine.proofs.RangesState.{test, header-ok, shaped}
 
 -- WHAT BOUNDS A CALL: the header is there, with at most 16 nodes and a look-ahead of at most 15. Nothing that a run writes alters it
 pub record Sized (w : List ℕ) : Type 0 where
@@ -55,7 +56,7 @@ put-sized w rest at l h =
 
 with-sized : (w : List ℕ) (epoch : ℕ) (x : List ℕ) → Sized w → Sized (withEpoch w epoch x)
 unfolding withEpoch placeOf
-with-sized w epoch x h = put-sized w _ (placeOf w epoch) (omega arith) h
+with-sized w epoch x h = put-sized w _ (placeOf w epoch) (omega (arith, header-first (nodes w))) h
 
 update-sized : (w : List ℕ) → Sized w → Sized (updateEpoch w)
 unfolding updateEpoch withoutEpoch
@@ -155,26 +156,14 @@ message-bounded sender epoch proposer content w p h =
 abbrev pub logLimit : ℕ
 logLimit = chainLimit + callLimit
 
-and-false : (x : Bool) → x && false ≡ false
-and-false true = refl
-and-false false = refl
-
-ahead-few : (w : List ℕ) → headerInRange w ≡ true → ahead w ≤ 15
-unfolding headerInRange
-ahead-few w e = go (leb (ahead w) 15) refl
-  where
-    go : (x : Bool) → leb (ahead w) 15 ≡ x → ahead w ≤ 15
-    go true f = leb-true (ahead w) 15 f
-    go false f = let z : headerInRange w ≡ false = simp (f, and-false, headerInRange) in absurd (false≢true (sym z ∙ e))
-
 module _ (w : List ℕ) (ok : stateOk w ≡ true) where
   pub state-sized : Sized w
-  unfolding stateOk
+  unfolding headerTests
   state-sized =
       record {
-        long = omega (arith, enter w ok (lastEpoch + ahead w + 1) (header-ok w ok .epoch) .words .long);
+        long = omega (arith, header-first (nodes w), shaped w ok .long);
         few = header-ok w ok .few;
-        near = ahead-few w (and-true (headerInRange w) _ (and-true _ _ ok .0) .0);
+        near = leb-true (ahead w) 15 (test w ok 3);
       }
 
   module _ (answers : List ℕ) (good : tableOk (nodes w) answers ≡ true) where

@@ -26,9 +26,10 @@ use Rattle.steps.proofs.Read13.{GivesAs, Gives, gives-map, gives-cond, gives-on
 use Rattle.subset.proofs.After.{After}
 use Rattle.epoch.specs.declared.SubsetHandlingStrategy.{SubsetHandlingStrategy}
 use Rattle.epoch.specs.declared.MessageContent.{MessageContent}
-use Rattle.epoch.specs.Words.{isVacant, isAccepted}
+use Rattle.subset.specs.Words.{recordLength}
+use Rattle.epoch.specs.Words.{isVacant}
 use Rattle.epoch.specs.Epoch.{propose as proposeInEpoch, handleMessageContent}
-use Rattle.epoch.specs.Batch.{isReady, readAt, readFrom, outputBatch}
+use Rattle.epoch.specs.Batch.{isRead, outputBatchIn, isReady, readAt, readFrom, outputBatch}
 use Rattle.epoch.proofs.Holds.{Holds}
 use Rattle.epoch.proofs.Laws.{epoch-laws}
 use Rattle.epoch.proofs.Eights.{eightsOf, Counted, proposed-counted, handled-counted}
@@ -92,19 +93,20 @@ thirteen k = eqb k 13
 abbrev one : ℕ → Bool
 one k = eqb k 1
 
-read-past : (m p readable : ℕ) (w : List ℕ) (u : Tape) → Past thirteen (u .rest) (readFrom m p readable w u .tape .rest)
-unfolding readFrom readAt
-read-past zero p readable w u = past-same thirteen (u .rest)
-read-past (suc m) p readable w u =
-    past-onward thirteen (u .rest) (readAt p readable w u) _
-    (past-cond thirteen (u .rest) (isAccepted w p) _ _
-    (past-heard thirteen (u .rest) (askAbout u 13 p) w _ (past-about thirteen u 13 p refl) (λ a b q. past-cond thirteen (q .rest) (eqb a 0) _ _ (past-same thirteen (q .rest)) (past-same thirteen (q .rest))))
-    (past-same thirteen (u .rest)))
-    (λ readable w q. read-past m (p + 1) readable w q)
+module _ (size : ℕ) where
+  read-past : (m p readable : ℕ) (w : List ℕ) (u : Tape) → Past thirteen (u .rest) (readFrom size m p readable w u .tape .rest)
+  unfolding readFrom readAt
+  read-past zero p readable w u = past-same thirteen (u .rest)
+  read-past (suc m) p readable w u =
+      past-onward thirteen (u .rest) (readAt size p readable w u) _
+      (past-cond thirteen (u .rest) (isRead size w p) _ _
+      (past-heard thirteen (u .rest) (askAbout u 13 p) w _ (past-about thirteen u 13 p refl) (λ a b q. past-cond thirteen (q .rest) (eqb a 0) _ _ (past-same thirteen (q .rest)) (past-same thirteen (q .rest))))
+      (past-same thirteen (u .rest)))
+      (λ readable w q. read-past m (p + 1) readable w q)
 
 batch-past : (n epoch : ℕ) (w : List ℕ) (u : Tape) → Past thirteen (u .rest) (outputBatch n epoch w u .tape .rest)
-unfolding outputBatch
-batch-past n epoch w u = past-onward thirteen (u .rest) (readFrom n 0 0 w u) _ (read-past n 0 0 w u) (λ readable w q. past-same thirteen (q .rest))
+unfolding outputBatchIn
+batch-past n epoch w u = past-onward thirteen (u .rest) (readFrom (recordLength n) n 0 0 w u) _ (read-past (recordLength n) n 0 0 w u) (λ readable w q. past-same thirteen (q .rest))
 
 abbrev Thirteens : Tape → Run (List ℕ) (Unit {0}) → Type 0
 Thirteens u r = Past thirteen (u .rest) (r .tape .rest)
@@ -274,11 +276,11 @@ module _ (w₀ : List ℕ) (network : Network (netOf w₀)) where
       → messageCall w scratch answers step sender epoch content proposer item .reply ≡ 0 → CountedIn vs ds epoch (tapeOf answers .rest) []
   handled-told w cur vs ds ts h sender epoch content proposer item scratch answers step e =
       let p = message-passes w scratch answers step sender epoch content proposer item e in
-      let c = contentOf w scratch answers step sender epoch content proposer item in
+      let c = contentOf content item in
       let run = handleMessage sender epoch proposer c w (tapeOf answers) in
       let same = h .shaped .nodes in
       let good : Good (nodes w₀) (tapeOf answers .rest) = rw same at (table-good (nodes w) answers (p .1)) in
-      let below : proposer < nodes w₀ = rw same at (named-below w scratch answers step sender epoch content proposer item (p .3)) in
+      let below : proposer < nodes w₀ = rw same at (named-below (nodes w) content proposer (p .3)) in
       rw (p .4 .rest) at (gives-out run _ tt (handled-eights sender epoch proposer c below w cur vs ds ts (tapeOf answers) h good) (p .4 .goes))
 
   abbrev Onward : List Call → Type 0

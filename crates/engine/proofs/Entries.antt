@@ -17,9 +17,9 @@ use Rattle.epoch.specs.declared.SubsetHandlingStrategy.{SubsetHandlingStrategy}
 use Rattle.epoch.specs.Words.{isComplete, isAccepted, DecryptionState, missing, ongoing, complete, loadDecryption}
 use Rattle.epoch.proofs.Handled.{TextOk}
 use Rattle.epoch.proofs.Holds.{Going, Done, Holds}
-use Rattle.engine.specs.History.{Event, decisionTaken, plaintext, Handed}
+use Rattle.engine.specs.History.{Event, decisionTaken, plaintext, Handed, namesOf}
 use Rattle.engine.specs.Outputs.{paired, pairsIn, pairsRead, plaintextOf}
-use Rattle.engine.proofs.OneBatch.{namesOf, entriesOf}
+use Rattle.engine.proofs.OneBatch.{entriesOf}
 use Rattle.engine.proofs.Handout.{InAll, of-names, is-true}
 use Rattle.engine.proofs.Invariant.{Slot, vacant, lives}
 

@@ -8,7 +8,7 @@ use lib.Dec.{eqb}
 use Rattle.steps.specs.Answers.{Tape, askAbout}
 use Rattle.steps.specs.Runs.{Verdict, going, refused, failed, Run, ends, before, onwardAs, onward, inside}
 use Rattle.epoch.specs.Words.{isAccepted}
-use Rattle.epoch.specs.Batch.{isReady, readAt, readFrom, outputBatch}
+use Rattle.epoch.specs.Batch.{isRead, outputBatchIn, isReady, readAt, readFrom, outputBatch}
 use Rattle.engine.specs.State.{nodes, ahead, currentEpoch, epochWords, withEpoch, stateOk}
 use Rattle.engine.specs.HoneyBadger.{updateEpoch, inEpoch, tryOutputBatches, skipToEpoch}
 use Rattle.engine.specs.Work.{batchesFrom}
@@ -17,22 +17,24 @@ use Rattle.engine.proofs.Skips.{skip-stays}
 use Rattle.engine.proofs.Window.{Shaped, with-own, update-shaped, update-current, update-kept}
 use Rattle.engine.proofs.RangesState.{shaped}
 use Rattle.engine.proofs.Clearing.{skip-update}
+use Rattle.subset.specs.Words.{recordLength}
 use Rattle.steps.proofs.RunLaws.{same-heard, same-cond, same-onward}
 
 -- a batch changes no word of its epoch
-same-read-at : (p readable : ℕ) (x : List ℕ) (t : Tape) → readAt p readable x t .state ≡ x
-unfolding readAt
-same-read-at p readable x t =
-    same-cond x (isAccepted x p) _ _ (same-heard x (askAbout t 13 p) _ (λ a b q. same-cond x (eqb a 0) _ _ refl refl)) refl
+module _ (size : ℕ) where
+  same-read-at : (p readable : ℕ) (x : List ℕ) (t : Tape) → readAt size p readable x t .state ≡ x
+  unfolding readAt
+  same-read-at p readable x t =
+      same-cond x (isRead size x p) _ _ (same-heard x (askAbout t 13 p) _ (λ a b q. same-cond x (eqb a 0) _ _ refl refl)) refl
 
-same-read : (m p readable : ℕ) (x : List ℕ) (t : Tape) → readFrom m p readable x t .state ≡ x
-unfolding readFrom
-same-read zero p readable x t = refl
-same-read (suc m) p readable x t = same-onward x _ _ (same-read-at p readable x t) (λ a q. same-read m (p + 1) a x q)
+  same-read : (m p readable : ℕ) (x : List ℕ) (t : Tape) → readFrom size m p readable x t .state ≡ x
+  unfolding readFrom
+  same-read zero p readable x t = refl
+  same-read (suc m) p readable x t = same-onward x _ _ (same-read-at p readable x t) (λ a q. same-read m (p + 1) a x q)
 
 pub same-batch : (n e : ℕ) (x : List ℕ) (t : Tape) → outputBatch n e x t .state ≡ x
-unfolding outputBatch
-same-batch n e x t = same-onward x _ _ (same-read n 0 0 x t) (λ a q. refl)
+unfolding outputBatchIn
+same-batch n e x t = same-onward x _ _ (same-read (recordLength n) n 0 0 x t) (λ a q. refl)
 
 -- BATCHES. Each that goes out moves the run on by one epoch
 pub record Between (first last : ℕ) (r : Run ℕ (Unit {0})) : Type 0 where

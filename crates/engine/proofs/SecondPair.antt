@@ -50,13 +50,13 @@ same = record { nodes = refl; faulty = refl; schedule = refl }
 abbrev encrypted : ℕ → Bool
 encrypted = encryptedOf hostC
 
-told-alike : Premises 4 encrypted (eventsOf linesC) (eventsOf linesD)
+told-alike : Premises 4 encrypted (eventsOf 1 linesC) (eventsOf 0 linesD)
 unfolding opened tests told eventsOf linesC linesD hostC value decision answer
 told-alike =
     record {
-      values = took-alike ofValue value (eventsOf linesC) (eventsOf linesD) refl refl;
-      decisions = took-alike ofDecision decision (eventsOf linesC) (eventsOf linesD) refl refl;
-      readings = read-alike answer (λ v. v + 100) (readings 4 encrypted (eventsOf linesC) ++ readings 4 encrypted (eventsOf linesD)) refl;
+      values = took-alike ofValue value (eventsOf 1 linesC) (eventsOf 0 linesD) refl refl;
+      decisions = took-alike ofDecision decision (eventsOf 1 linesC) (eventsOf 0 linesD) refl refl;
+      readings = read-alike answer (λ v. v + 100) (readings 4 encrypted (eventsOf 1 linesC) ++ readings 4 encrypted (eventsOf 0 linesD)) refl;
     }
 
 pub premises : Premises 4 encrypted (historyOf hostC) (historyOf hostD)
@@ -68,17 +68,17 @@ unfolding hostC hostD
 applies claim = claim hostC hostD sound-c sound-d same premises
 
 -- AND THE CONCLUSIONS hold of this pair, by computing: all that the claim says, proved without the claim
-one-c : One 4 1 encrypted (eventsOf linesC)
+one-c : One 4 1 encrypted (eventsOf 1 linesC)
 unfolding opened tests told eventsOf linesC hostC
-one-c = is-one 4 1 encrypted (eventsOf linesC) refl
+one-c = is-one 4 1 encrypted (eventsOf 1 linesC) refl
 
-one-d : One 4 1 encrypted (eventsOf linesD)
+one-d : One 4 1 encrypted (eventsOf 0 linesD)
 unfolding opened tests told eventsOf linesD hostC
-one-d = is-one 4 1 encrypted (eventsOf linesD) refl
+one-d = is-one 4 1 encrypted (eventsOf 0 linesD) refl
 
-two : Two 4 encrypted (eventsOf linesC) (eventsOf linesD)
+two : Two 4 encrypted (eventsOf 1 linesC) (eventsOf 0 linesD)
 unfolding opened tests told eventsOf linesC linesD hostC
-two = is-two 4 encrypted (eventsOf linesC) (eventsOf linesD) refl
+two = is-two 4 encrypted (eventsOf 1 linesC) (eventsOf 0 linesD) refl
 
 pub conclusions : Conclusions 4 1 encrypted (historyOf hostC) (historyOf hostD)
 conclusions = rw (history-c, history-d) (record { first = one-c; second = one-d; both = two })

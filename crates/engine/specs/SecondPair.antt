@@ -3,9 +3,10 @@
 --
 -- What this pair has and the first one (Pair.antt) has not: one decision 0 in each epoch; share messages, some before the ciphertext, whose
 -- shares combine; an observer; two proposers with the same value; a skip that moves; an epoch that only one host hands out, on each side.
-use Prim.Native.Nat.{ℕ, _+_}
+use Prim.Native.Nat.{ℕ, _+_, max}
 use mathlib.Core.Path.{_≡_, refl}
 use mathlib.Core.List.{List, [], _∷_, _++_}
+use mathlib.Core.Bool.{Bool, true, false}
 use mathlib.Core.Option.{Option, none, some}
 use lib.ListN.{length, replicate}
 use Rattle.steps.specs.Steps.{Item, item, linkAfter}
@@ -42,7 +43,9 @@ combined plaintext = item 12 1 plaintext ∷ []
 -- faults 5. 16 records are lent for the step, and scratch for either host
 pub record Line : Type 0 where
   pub call : Call
-  pub events : List Event
+  -- by the epoch that is current before the call: its event, and the epoch that is current afterwards
+  pub events : ℕ → List Event
+  pub current : ℕ → ℕ
 
 pub record Outcome : Type 0 where
   pub batches : List Batch
@@ -60,36 +63,39 @@ unfoldable pub told : ℕ → List Item → List Rec
 told i [] = []
 told i (x ∷ xs) = record { next = linkAfter i xs; kind = x .kind; a = x .a; b = x .b } ∷ told (i + 1) xs
 
-abbrev event : ℕ → Option ℕ → List Item → Outcome → List Event
-event epoch shareOf xs o = record { epoch = epoch; shareOf = shareOf; answers = told 1 xs; batches = o .batches; fives = o .fives } ∷ []
+abbrev line : Call → Bool → ℕ → Option ℕ → List Item → Outcome → Line
+line call isMessage epoch shareOf xs o =
+    record {
+      call = call;
+      events = λ current. record { current = current; isMessage = isMessage; epoch = epoch; shareOf = shareOf; answers = told 1 xs; batches = o .batches; fives = o .fives } ∷ [];
+      current = λ current. current + length (o .batches);
+    }
 
 -- a propose, which must be for this epoch
 abbrev proposing : ℕ → List Item → Outcome → Line
-proposing epoch xs o = record { call = propose (replicate 144 9) (table xs) (replicate 64 9); events = event epoch none xs o }
+proposing epoch xs o = line (propose (replicate 144 9) (table xs) (replicate 64 9)) false epoch none xs o
 
 -- messages, each by its sender, its epoch and the proposer that it is about: of the broadcast, of the agreement, and a decryption share
 abbrev hearing : ℕ → ℕ → ℕ → List Item → Outcome → Line
-hearing sender epoch p xs o =
-    record { call = message sender epoch 1 p 0 (replicate 144 9) (table xs) (replicate 64 9); events = event epoch none xs o }
+hearing sender epoch p xs o = line (message sender epoch 1 p 0 (replicate 144 9) (table xs) (replicate 64 9)) true epoch none xs o
 
 abbrev agreeing : ℕ → ℕ → ℕ → List Item → Outcome → Line
-agreeing sender epoch p xs o =
-    record { call = message sender epoch 2 p 0 (replicate 144 9) (table xs) (replicate 64 9); events = event epoch none xs o }
+agreeing sender epoch p xs o = line (message sender epoch 2 p 0 (replicate 144 9) (table xs) (replicate 64 9)) true epoch none xs o
 
 abbrev sharing : ℕ → ℕ → ℕ → ℕ → List Item → Outcome → Line
 sharing sender epoch p share xs o =
-    record { call = message sender epoch 3 p share (replicate 144 9) (table xs) (replicate 64 9); events = event epoch (some p) xs o }
+    line (message sender epoch 3 p share (replicate 144 9) (table xs) (replicate 64 9)) true epoch (some p) xs o
 
 abbrev skipping : ℕ → Line
-skipping target = record { call = skip target; events = [] }
+skipping target = record { call = skip target; events = λ current. []; current = λ current. max current target }
 
 unfoldable pub callsOf : List Line → List Call
 callsOf [] = []
 callsOf (l ∷ ls) = l .call ∷ callsOf ls
 
-unfoldable pub eventsOf : List Line → List Event
-eventsOf [] = []
-eventsOf (l ∷ ls) = l .events ++ eventsOf ls
+unfoldable pub eventsOf : ℕ → List Line → List Event
+eventsOf current [] = []
+eventsOf current (l ∷ ls) = l .events current ++ eventsOf (l .current current) ls
 
 -- THE HOSTS. EveryNthEpoch(2): epochs 0 and 2 are encrypted, epochs 1 and 3 are not. In epoch e the proposer 4 − e is decided 0, the others 1. The
 -- value of proposer p is 10 × e + p, but in epoch 2 proposer 3 has the value 21 of proposer 1. A value v decrypts to 100 + v; 120 does not read.
@@ -202,11 +208,11 @@ unfolding opened table callsOf linesD hostD repliesIn
 replies-d = refl
 
 -- and the lines are what happens
-pub history-c : historyOf hostC ≡ eventsOf linesC
+pub history-c : historyOf hostC ≡ eventsOf 1 linesC
 unfolding opened table told callsOf eventsOf linesC hostC
 history-c = refl
 
-pub history-d : historyOf hostD ≡ eventsOf linesD
+pub history-d : historyOf hostD ≡ eventsOf 0 linesD
 unfolding opened table told callsOf eventsOf linesD hostD
 history-d = refl
 
@@ -217,7 +223,7 @@ inEpoch took = took 0 ∷ took 1 ∷ took 2 ∷ took 3 ∷ []
 abbrev three : (ℕ → ℕ → Option ℕ) → List (List (Option ℕ))
 three took = inEpoch (took 1) ∷ inEpoch (took 2) ∷ inEpoch (took 3) ∷ []
 
-pub values-c : three (valueTaken (eventsOf linesC))
+pub values-c : three (valueTaken (eventsOf 1 linesC))
     ≡ (some 10 ∷ some 11 ∷ some 12 ∷ none ∷ [])
     ∷ (some 20 ∷ some 21 ∷ none ∷ some 21 ∷ [])
     ∷ (none ∷ none ∷ none ∷ none ∷ [])
@@ -225,7 +231,7 @@ pub values-c : three (valueTaken (eventsOf linesC))
 unfolding opened told eventsOf linesC hostC
 values-c = refl
 
-pub values-d : three (valueTaken (eventsOf linesD))
+pub values-d : three (valueTaken (eventsOf 0 linesD))
     ≡ (some 10 ∷ none ∷ none ∷ none ∷ [])
     ∷ (some 20 ∷ some 21 ∷ none ∷ some 21 ∷ [])
     ∷ (some 30 ∷ none ∷ some 32 ∷ some 33 ∷ [])
@@ -233,7 +239,7 @@ pub values-d : three (valueTaken (eventsOf linesD))
 unfolding opened told eventsOf linesD hostD
 values-d = refl
 
-pub decisions-c : three (decisionTaken (eventsOf linesC))
+pub decisions-c : three (decisionTaken (eventsOf 1 linesC))
     ≡ (some 1 ∷ some 1 ∷ some 1 ∷ some 0 ∷ [])
     ∷ (some 1 ∷ some 1 ∷ some 0 ∷ some 1 ∷ [])
     ∷ (none ∷ none ∷ none ∷ none ∷ [])
@@ -241,7 +247,7 @@ pub decisions-c : three (decisionTaken (eventsOf linesC))
 unfolding opened told eventsOf linesC hostC
 decisions-c = refl
 
-pub decisions-d : three (decisionTaken (eventsOf linesD))
+pub decisions-d : three (decisionTaken (eventsOf 0 linesD))
     ≡ (some 1 ∷ none ∷ none ∷ none ∷ [])
     ∷ (some 1 ∷ some 1 ∷ some 0 ∷ some 1 ∷ [])
     ∷ (some 1 ∷ some 0 ∷ some 1 ∷ some 1 ∷ [])
@@ -250,11 +256,11 @@ unfolding opened told eventsOf linesD hostD
 decisions-d = refl
 
 -- on each host three answers each to 8, 9 and 12, and 6 to 13
-pub readings-c : length (readings 4 (encryptedOf hostC) (eventsOf linesC)) ≡ 15
+pub readings-c : length (readings 4 (encryptedOf hostC) (eventsOf 1 linesC)) ≡ 15
 unfolding opened told eventsOf linesC hostC
 readings-c = refl
 
-pub readings-d : length (readings 4 (encryptedOf hostD) (eventsOf linesD)) ≡ 15
+pub readings-d : length (readings 4 (encryptedOf hostD) (eventsOf 0 linesD)) ≡ 15
 unfolding opened told eventsOf linesD hostD
 readings-d = refl
 
@@ -262,10 +268,10 @@ readings-d = refl
 abbrev with : List ℕ → Batch → Seen
 with unreadable b = record { batch = b; unreadable = unreadable }
 
-pub seen-c : seenIn (handed 4 (encryptedOf hostC) (eventsOf linesC)) ≡ with [] batch1 ∷ with (0 ∷ []) batch2 ∷ []
+pub seen-c : seenIn (handed 4 (encryptedOf hostC) (eventsOf 1 linesC)) ≡ with [] batch1 ∷ with (0 ∷ []) batch2 ∷ []
 unfolding opened told eventsOf linesC hostC seenIn
 seen-c = refl
 
-pub seen-d : seenIn (handed 4 (encryptedOf hostD) (eventsOf linesD)) ≡ with (0 ∷ []) batch2 ∷ with [] batch3 ∷ []
+pub seen-d : seenIn (handed 4 (encryptedOf hostD) (eventsOf 0 linesD)) ≡ with (0 ∷ []) batch2 ∷ with [] batch3 ∷ []
 unfolding opened told eventsOf linesD hostD seenIn
 seen-d = refl
