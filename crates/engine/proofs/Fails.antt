@@ -2,7 +2,7 @@
 use Prim.Native.Nat.{ℕ, zero, suc, _+_}
 use mathlib.Core.Path.{_≡_}
 use mathlib.Core.List.{List, []}
-use mathlib.Core.Bool.{Bool, true, false, cond, _&&_}
+use mathlib.Core.Bool.{Bool, true, false, cond, _&&_, _||_}
 use mathlib.Core.Option.{Option}
 use lib.Dec.{eqb, leb, ltb}
 use lib.ListN.{getD}
@@ -17,9 +17,9 @@ use Rattle.steps.specs.Runs.{Verdict, going, refused, failed, Run, ends, onward
 use Rattle.decryption.specs.declared.ThresholdDecrypt.{ThresholdDecrypt}
 use Rattle.decryption.specs.Decrypt.{countShares, new, setCiphertext, checkShare, removeFrom, ownShare, startWith, combine, tryWith, startDecryption, tryOutput, storeShare, handleMessage as handleShare}
 use Rattle.subset.specs.declared.ProposalState.{ProposalState}
-use Rattle.subset.specs.Words.{loadProposal, decidedAt}
+use Rattle.subset.specs.Words.{isDecided, loadProposal}
 use Rattle.subset.specs.Proposal.{Moved, asksAgreement, asksBroadcast, afterBroadcast, instanceAnswer, handleAgreement, voteTrue, afterValue, handleBroadcast}
-use Rattle.subset.specs.Subset.{countAccepted, completeFrom, atProposal, broadcastAt, agreementAt, voteFrom, votes, tryOutput as trySubset, propose as proposeSubset, handleMessage as handleSubset}
+use Rattle.subset.specs.Subset.{countAccepted, allComplete, atProposal, broadcastAt, agreementAt, voteFrom, votes, tryOutput as trySubset, propose as proposeSubset, handleMessage as handleSubset}
 use Rattle.epoch.specs.declared.SubsetHandlingStrategy.{SubsetHandlingStrategy}
 use Rattle.epoch.specs.declared.MessageContent.{MessageContent}
 use Rattle.epoch.specs.declared.MessageContent.the-variants.{Broadcast, Agreement, DecryptionShare}
@@ -141,7 +141,7 @@ module _ (ok : ℕ → Bool) (error : ℕ) (ok-error : ok error ≡ true) where
     only-agreement : (kind : ℕ) (s : ProposalState) (p : Tape) → Only ok (handleAgreement error proposer kind s p)
     unfolding handleAgreement
     only-agreement kind s p =
-        only-cond (asksAgreement s) (only-onward _ (only-answer kind 2 s p) (λ out s q. record { fails = tt })) (record { fails = tt })
+        only-onward _ (only-answer kind 2 s p) (λ out s q. record { fails = tt })
 
     only-vote-true : (m : Moved) (p : Tape) → Only ok (voteTrue error proposer m p)
     unfolding voteTrue
@@ -155,7 +155,7 @@ module _ (ok : ℕ → Bool) (error : ℕ) (ok-error : ok error ≡ true) where
     only-broadcast : (kind : ℕ) (s : ProposalState) (p : Tape) → Only ok (handleBroadcast error proposer kind s p)
     unfolding handleBroadcast
     only-broadcast kind s p =
-        only-cond (asksBroadcast s) (only-onward _ (only-answer kind 1 s p) (λ out s q. only-value s out q)) (record { fails = tt })
+        only-onward _ (only-answer kind 1 s p) (λ out s q. only-value s out q)
 
   module _ (net : NetworkInfo) where
     only-at : (p : ℕ) (w : List ℕ) (r : Run ProposalState (Option ℕ)) → Only ok r → Only ok (atProposal net error p w r)
@@ -184,11 +184,9 @@ module _ (ok : ℕ → Bool) (error : ℕ) (ok-error : ok error ≡ true) where
     only-try-subset : (w : List ℕ) (p : Tape) → Only ok (trySubset net error w p)
     unfolding trySubset
     only-try-subset w p =
-        only-cond (eqb (getD w decidedAt 0) 0)
-        (only-cond (ltb (countAccepted (net .«num_nodes») w) (numCorrect net)) (record { fails = tt })
+        only-cond (isDecided w || ltb (countAccepted (net .«num_nodes») w) (numCorrect net)) (record { fails = tt })
         (only-onward _ (only-votes w p) (λ _ w q.
-        only-cond (completeFrom (net .«num_nodes») (net .«num_nodes») 0 w) (record { fails = tt }) (record { fails = tt }))))
-        (record { fails = tt })
+        only-cond (allComplete (net .«num_nodes») w) (record { fails = tt }) (record { fails = tt })))
 
     pub only-propose-subset : (w : List ℕ) (p : Tape) → Only ok (proposeSubset net error w p)
     unfolding proposeSubset

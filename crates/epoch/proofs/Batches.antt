@@ -20,10 +20,10 @@ use Rattle.steps.proofs.Laws.{and-true}
 use Rattle.decryption.specs.declared.ThresholdDecrypt.{ThresholdDecrypt}
 use Rattle.decryption.specs.Decrypt.{new}
 use Rattle.subset.specs.declared.ProposalState.{ProposalState}
-use Rattle.subset.specs.Words.{epochLength, statusAt, decidedAt, acceptedAt, countAt, proposalAt, valueAt, arrivalAt, tagOf, valueOf, loadProposal, storeProposal, addContribution, dropFrom}
+use Rattle.subset.specs.Words.{isDecided, epochLength, statusAt, decidedAt, acceptedAt, countAt, proposalAt, valueAt, arrivalAt, tagOf, valueOf, loadProposal, storeProposal, addContribution, dropFrom}
 use Rattle.subset.specs.Rule.{settledFrom, isOver}
 use Rattle.subset.specs.Proposal.{asksAgreement, asksBroadcast}
-use Rattle.subset.specs.Subset.{completeFrom, countAccepted, contributed, atProposal, broadcastAt, agreementAt, voteFrom, votes, tryOutput, propose as proposeSubset, handleMessage as handleSubset}
+use Rattle.subset.specs.Subset.{allComplete, countAccepted, contributed, atProposal, broadcastAt, agreementAt, voteFrom, votes, tryOutput, propose as proposeSubset, handleMessage as handleSubset}
 use Rattle.epoch.specs.declared.SubsetHandlingStrategy.{SubsetHandlingStrategy}
 use Rattle.epoch.specs.declared.MessageContent.{MessageContent}
 use Rattle.epoch.specs.declared.MessageContent.the-variants.{Broadcast, Agreement, DecryptionShare}
@@ -71,7 +71,7 @@ module _ (n : ℕ) where
   unfolding storeProposal
   alive-proposal w p s h = alive-set (set w (proposalAt n p) (tagOf s)) (valueAt n p) (valueOf s) (λ e. omega arith) (alive-set w (proposalAt n p) (tagOf s) (λ e. omega arith) h)
 
-  alive-contributed : (p : ℕ) (o : Option ℕ) (w : List ℕ) → Alive w → Alive (contributed n p o w)
+  alive-contributed : (p : ℕ) (o : Option ℕ) (w : List ℕ) → Alive w → Alive (contributed n w p o)
   unfolding contributed addContribution
   alive-contributed p none w h = h
   alive-contributed p (some value) w h = go (ltb (getD w countAt 0) n)
@@ -146,11 +146,9 @@ module _ (net : NetworkInfo) (error : ℕ) where
   alive-try : (w : List ℕ) (t : Tape) → Alive w → Alive (tryOutput net error w t .state)
   unfolding tryOutput votes
   alive-try w t h =
-      alive-cond (eqb (getD w decidedAt 0) 0) _ _
-      (alive-cond (ltb (countAccepted (net .«num_nodes») w) (numCorrect net)) _ _ h
+      alive-cond (isDecided w || ltb (countAccepted (net .«num_nodes») w) (numCorrect net)) _ _ h
       (alive-onward (votes net error w t) _ (alive-cond (eqb (countAccepted (net .«num_nodes») w) (numCorrect net)) _ _ (alive-votes (net .«num_nodes») 0 w t h) h)
-      (λ _ w q h. alive-cond (completeFrom (net .«num_nodes») (net .«num_nodes») 0 w) _ _ (alive-set w decidedAt 1 (λ e. omega arith) h) h)))
-      h
+      (λ _ w q h. alive-cond (allComplete (net .«num_nodes») w) _ _ (alive-set w decidedAt 1 (λ e. omega arith) h) h))
 
   alive-propose-subset : (w : List ℕ) (t : Tape) → Alive w → Alive (proposeSubset net error w t .state)
   unfolding proposeSubset

@@ -25,9 +25,9 @@ use Rattle.decryption.specs.declared.ThresholdDecrypt.{ThresholdDecrypt}
 use Rattle.decryption.specs.Decrypt.{new, isSender, withInput, withEnd, countShares, setCiphertext, checkShare, removeFrom, ownShare, startWith, combine, tryWith, startDecryption, tryOutput as tryCombine, storeShare, handleMessage as handleShare}
 use Rattle.decryption.proofs.Cycle.{Does}
 use Rattle.subset.specs.declared.ProposalState.{ProposalState}
-use Rattle.subset.specs.Words.{decidedAt, acceptedAt, statusAt, countAt, recordAt, proposalAt, valueAt, arrivalAt, loadProposal, storeProposal, addContribution}
+use Rattle.subset.specs.Words.{decidedAt, isDecided, acceptedAt, statusAt, countAt, recordAt, proposalAt, valueAt, arrivalAt, loadProposal, storeProposal, addContribution}
 use Rattle.subset.specs.Proposal.{asksAgreement, asksBroadcast, afterBroadcast, instanceAnswer, handleAgreement, voteTrue, afterValue, handleBroadcast}
-use Rattle.subset.specs.Subset.{completeFrom, countAccepted, contributed, atProposal, broadcastAt, agreementAt, voteFrom, votes, tryOutput, propose as proposeSubset, handleMessage as handleSubset}
+use Rattle.subset.specs.Subset.{allComplete, countAccepted, contributed, atProposal, broadcastAt, agreementAt, voteFrom, votes, tryOutput, propose as proposeSubset, handleMessage as handleSubset}
 use Rattle.subset.proofs.Frames.{differ, store-word}
 use Rattle.epoch.specs.declared.SubsetHandlingStrategy.{SubsetHandlingStrategy}
 use Rattle.epoch.specs.declared.MessageContent.{MessageContent}
@@ -135,7 +135,7 @@ module _ (n : ℕ) (w₀ w : List ℕ) (f : Frame n w₀ w) where
           ∙ f i o
       go false = f i o
 
-  frame-contributed : (p : ℕ) (x : Option ℕ) → Frame n w₀ (contributed n p x w)
+  frame-contributed : (p : ℕ) (x : Option ℕ) → Frame n w₀ (contributed n w p x)
   unfolding contributed
   frame-contributed p none = f
   frame-contributed p (some x) = frame-add p x
@@ -156,7 +156,7 @@ module _ (error proposer : ℕ) where
   agreement-runs : (kind : ℕ) → subsetKinds kind ≡ true → (s : ProposalState) (p : Tape) → Orderly Any subsetKinds p (handleAgreement error proposer kind s p)
   unfolding handleAgreement
   agreement-runs kind e s p =
-      orderly-cond (asksAgreement s) _ _ (orderly-onward _ _ (answer-runs kind 2 e s p) (λ out s q _. orderly-ends tt)) (orderly-ends tt)
+      orderly-onward _ _ (answer-runs kind 2 e s p) (λ out s q _. orderly-ends tt)
 
   value-runs : (s : ProposalState) (out : Output) (p : Tape) → Orderly Any subsetKinds p (afterValue error proposer s out p)
   unfolding afterValue voteTrue
@@ -167,7 +167,7 @@ module _ (error proposer : ℕ) where
   broadcast-runs : (kind : ℕ) → subsetKinds kind ≡ true → (s : ProposalState) (p : Tape) → Orderly Any subsetKinds p (handleBroadcast error proposer kind s p)
   unfolding handleBroadcast
   broadcast-runs kind e s p =
-      orderly-cond (asksBroadcast s) _ _ (orderly-onward _ _ (answer-runs kind 1 e s p) (λ out s q _. value-runs s out q)) (orderly-ends tt)
+      orderly-onward _ _ (answer-runs kind 1 e s p) (λ out s q _. value-runs s out q)
 
 module _ (net : NetworkInfo) (error : ℕ) (w₀ : List ℕ) where
   abbrev F : List ℕ → Type 0
@@ -205,11 +205,9 @@ module _ (net : NetworkInfo) (error : ℕ) (w₀ : List ℕ) where
   try-runs : Runs (tryOutput net error)
   unfolding tryOutput
   try-runs w u h =
-      orderly-cond (eqb (getD w decidedAt 0) 0) _ _
-      (orderly-cond (ltb (countAccepted (net .«num_nodes») w) (numCorrect net)) _ _ (orderly-ends h)
+      orderly-cond (isDecided w || ltb (countAccepted (net .«num_nodes») w) (numCorrect net)) _ _ (orderly-ends h)
       (orderly-onward _ _ (votes-runs w u h) (λ _ w q h.
-      orderly-cond (completeFrom (net .«num_nodes») (net .«num_nodes») 0 w) _ _ (orderly-ends (frame-decided (net .«num_nodes») w₀ w h 1)) (orderly-ends h))))
-      (orderly-ends h)
+      orderly-cond (allComplete (net .«num_nodes») w) _ _ (orderly-ends (frame-decided (net .«num_nodes») w₀ w h 1)) (orderly-ends h)))
 
   pub propose-subset-runs : Runs (proposeSubset net error)
   unfolding proposeSubset

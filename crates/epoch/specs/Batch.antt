@@ -30,16 +30,16 @@ module _ (size : ℕ) where
   unfoldable pub readAt : ℕ → ℕ → List ℕ → Tape → Run (List ℕ) ℕ
   readAt p readable w tape =
       cond (isRead w p)
-      (heard (askAbout tape 13 p) w (λ a b q.
+      (heard (askAbout tape 13 p) w (λ a b tape.
       cond (eqb a 0)
-      (before (fault 5 p 0 ∷ []) (ends (going readable) w q))
-      (ends (going (withBit readable p)) w q)))
+      (before (fault 5 p 0 ∷ []) (ends (going readable) w tape))
+      (ends (going (withBit readable p)) w tape)))
       (ends (going readable) w tape)
 
   -- the next m proposers, from p on
   unfoldable pub readFrom : ℕ → ℕ → ℕ → List ℕ → Tape → Run (List ℕ) ℕ
   readFrom zero p readable w tape = ends (going readable) w tape
-  readFrom (suc m) p readable w tape = onward (readAt p readable w tape) (λ readable w q. readFrom m (p + 1) readable w q)
+  readFrom (suc m) p readable w tape = onward (readAt p readable w tape) (λ readable w tape. readFrom m (p + 1) readable w tape)
 
   -- an entry 2 (proposer, plaintext) for each readable one of the next m proposers, from p on
   unfoldable pub entriesFrom : ℕ → ℕ → ℕ → List ℕ → List Entry
@@ -50,8 +50,8 @@ module _ (size : ℕ) where
   -- "1 batch (a epoch, b entries), then per entry 2 (a proposer, b plaintext), by rising proposer"
   unfoldable pub outputBatchIn : ℕ → ℕ → List ℕ → Tape → Run (List ℕ) (Unit {0})
   outputBatchIn n epoch w tape =
-      onward (readFrom n 0 0 w tape) (λ readable w q.
-      before (output 1 epoch (countBits n 0 readable) ∷ entriesFrom n 0 readable w) (ends (going tt) w q))
+      onward (readFrom n 0 0 w tape) (λ readable w tape.
+      before (output 1 epoch (countBits n 0 readable) ∷ entriesFrom n 0 readable w) (ends (going tt) w tape))
 
 -- with the engine's own records. A batch is output only of an epoch that is ready
 abbrev pub isReady : ℕ → List ℕ → Bool

@@ -8,7 +8,7 @@ use lib.Dec.{eqb}
 use Rattle.steps.specs.declared.network_info.NetworkInfo.{NetworkInfo}
 use Rattle.steps.specs.Steps.{Entry, message, fault, output, Item}
 use Rattle.steps.specs.Runs.{Run, numberOf}
-use Rattle.subset.specs.Words.{acceptedAt, countAt, proposalAt}
+use Rattle.subset.specs.Words.{acceptedOf, countOf, proposalAt}
 use Rattle.subset.specs.Cases.{answers, yes, no, out}
 use Rattle.epoch.specs.declared.SubsetHandlingStrategy.{SubsetHandlingStrategy}
 use Rattle.epoch.specs.declared.SubsetHandlingStrategy.the-variants.{Incremental, AllAtEnd}
@@ -78,9 +78,9 @@ module _ (c : Case) where
   apply (share sender p handle rs) w = ranOn w (handleMessageContent net (c .strategy) (c .encrypted) sender p (DecryptionShare handle) w (answers rs))
   apply (batch rs) w = ranOn w (outputBatch (c .nodes) 5 w (answers rs))
   apply ready w = shown w (cond (isReady (c .nodes) w) 1 0)
-  apply accepted w = shown w (getD w acceptedAt 0)
+  apply accepted w = shown w (acceptedOf w)
   apply received w = shown w (receivedProposals (c .nodes) w)
-  apply kept w = shown w (getD w countAt 0)
+  apply kept w = shown w (countOf w)
   apply (proposal p) w = shown w (getD w (proposalAt (c .nodes) p) 0)
   apply (decryption p) w = shown w (getD w (decryptionAt (c .nodes) p) 0)
 

@@ -3,7 +3,7 @@ use Prim.Native.Nat.{ℕ, zero, suc, _+_, _-_}
 use mathlib.Core.List.{List, [], _∷_, _++_}
 use mathlib.Core.Bool.{Bool, true, false, cond, _&&_, not}
 use mathlib.Core.Option.{Option, none, some}
-use lib.ListN.{getD, set, replicate}
+use lib.ListN.{getD, set}
 use lib.Dec.{eqb}
 use Rattle.steps.specs.declared.network_info.NetworkInfo.{NetworkInfo}
 use Rattle.steps.specs.Answers.{Tape, ask, askAbout}
@@ -12,27 +12,25 @@ use Rattle.steps.specs.Runs.{Verdict, going, refused, failed, Run, ends, before
 use Rattle.steps.specs.Bits.{countBits}
 use Rattle.decryption.specs.declared.ThresholdDecrypt.{ThresholdDecrypt}
 use Rattle.decryption.specs.Decrypt.{new, setCiphertext, startDecryption, isSender, handleMessage as handleShare}
-use Rattle.subset.specs.Words.{epochLength, statusAt, decidedAt, acceptedAt, countAt, proposalAt, valueAt, arrivalAt, dropFrom}
+use Rattle.subset.specs.Words.{statusAt, decidedAt, countAt, statusComplete, acceptedOf, countOf, tagOngoing, proposalAt, valueAt, contributor, dropFrom}
+-- `EpochState::new`
+unfoldable pub use Rattle.subset.specs.Words.{newEpoch}
 use Rattle.subset.specs.Subset.{propose as proposeSubset, handleMessage as handleSubset, receivedProposals as receivedBySubset}
 use Rattle.epoch.specs.declared.SubsetHandlingStrategy.{SubsetHandlingStrategy}
 use Rattle.epoch.specs.declared.SubsetHandlingStrategy.the-variants.{Incremental, AllAtEnd}
 use Rattle.epoch.specs.declared.MessageContent.{MessageContent}
 use Rattle.epoch.specs.declared.MessageContent.the-variants.{Broadcast, Agreement, DecryptionShare}
-use Rattle.epoch.specs.Words.{isVacant, isComplete, isAccepted, accept, DecryptionState, missing, ongoing, complete, asks, decryptionAt, loadEntry, loadDecryption, storeDecryption}
-
--- an epoch whose instances have just been built
-unfoldable pub newEpoch : ℕ → List ℕ
-newEpoch n = set (replicate (epochLength n) 0) statusAt 1
+use Rattle.epoch.specs.Words.{isVacant, isComplete, countBits, isAccepted, accept, DecryptionState, missing, ongoing, complete, asks, decryptionAt, loadEntry, loadDecryption, storeDecryption}
 
 -- "Received proposals are those in HasValue or Complete with 1; after Done, the accepted ones."
 unfoldable pub receivedProposals : ℕ → List ℕ → ℕ
 receivedProposals n w =
     cond (isVacant w) 0
-    (cond (isComplete w) (countBits n 0 (getD w acceptedAt 0)) (receivedBySubset n w))
+    (cond (isComplete w) (countBits n 0 (acceptedOf w)) (receivedBySubset n w))
 
 -- the list of contributions cut to its first k
 unfoldable pub firstContributions : ℕ → ℕ → List ℕ → List ℕ
-firstContributions n k w = set (dropFrom n (getD w countAt 0 - k) k w) countAt k
+firstContributions n k w = set (dropFrom n (countOf w - k) k w) countAt k
 
 -- the entry after a call of threshold decryption: a plaintext completes it; after a failure it is as the call left it
 unfoldable pub entryAfter : Verdict (Option ℕ) → ThresholdDecrypt → DecryptionState
@@ -58,10 +56,10 @@ handlesNow AllAtEnd done = done
 
 -- `SubsetState::Complete` drops the subset
 unfoldable pub subsetComplete : List ℕ → List ℕ
-subsetComplete w = set (set w statusAt 2) decidedAt 0
+subsetComplete w = set (set w statusAt statusComplete) decidedAt 0
 
 unfoldable pub proposalDropped : ℕ → List ℕ → ℕ → List ℕ
-proposalDropped n w p = set (set w (proposalAt n p) 0) (valueAt n p) 0
+proposalDropped n w p = set (set w (proposalAt n p) tagOngoing) (valueAt n p) 0
 
 module _ (net : NetworkInfo) where
   -- `process_decryption`: the step's messages and faults are in the run already
@@ -74,7 +72,7 @@ module _ (net : NetworkInfo) where
         tape = r .tape;
         log = r .log;
       })
-      (λ _ w q. ends (going tt) w q)
+      (λ _ w tape. ends (going tt) w tape)
 
   -- the entry of proposer p is called, unless it asks nothing any more
   unfoldable pub callEntry : ℕ → (ThresholdDecrypt → Tape → Run ThresholdDecrypt (Option ℕ)) → List ℕ → Tape → Run (List ℕ) (Unit {0})
@@ -86,16 +84,16 @@ module _ (net : NetworkInfo) where
   -- `DecryptionState::set_ciphertext`; one that does not verify is fault 4
   unfoldable pub inputCiphertext : ℕ → ℕ → ThresholdDecrypt → Tape → Run ThresholdDecrypt (Option ℕ)
   inputCiphertext p value td tape =
-      onward (setCiphertext p value td tape) (λ verified td q.
-      cond verified (startDecryption net p td q) (before (fault 4 p 0 ∷ []) (ends (going none) td q)))
+      onward (setCiphertext p value td tape) (λ verified td tape.
+      cond verified (startDecryption net p td tape) (before (fault 4 p 0 ∷ []) (ends (going none) td tape)))
 
   -- a ciphertext that does not read is fault 3, and there is no entry for it
   unfoldable pub sendDecryptionShare : ℕ → ℕ → List ℕ → Tape → Run (List ℕ) (Unit {0})
   sendDecryptionShare p value w tape =
-      heard (askAbout tape 8 p) w (λ a b q.
+      heard (askAbout tape 8 p) w (λ a b tape.
       cond (eqb a 0)
-      (before (fault 3 p 0 ∷ []) (ends (going tt) w q))
-      (callEntry p (inputCiphertext p value) w q))
+      (before (fault 3 p 0 ∷ []) (ends (going tt) w tape))
+      (callEntry p (inputCiphertext p value) w tape))
 
   -- a share counts while the subset is not done, and after that for an accepted proposer only; else it is fault 2 of its sender
   unfoldable pub handleDecryptionShare : ℕ → ℕ → ℕ → List ℕ → Tape → Run (List ℕ) (Unit {0})
@@ -115,7 +113,7 @@ module _ (net : NetworkInfo) where
   -- the next m proposers, from p on: "by proposer then sender"
   unfoldable pub finishFrom : ℕ → ℕ → List ℕ → Tape → Run (List ℕ) (Unit {0})
   finishFrom zero p w tape = ends (going tt) w tape
-  finishFrom (suc m) p w tape = onward (finishAt p w tape) (λ _ w q. finishFrom m (p + 1) w q)
+  finishFrom (suc m) p w tape = onward (finishAt p w tape) (λ _ w tape. finishFrom m (p + 1) w tape)
 
   module _ (strategy : SubsetHandlingStrategy) (encrypted : Bool) where
     -- a contribution is accepted once its decryption share was sent without failing; in a plain epoch it is its own plaintext
@@ -125,27 +123,27 @@ module _ (net : NetworkInfo) where
         (cond encrypted
         (sendDecryptionShare p value w tape)
         (ends (going tt) (storeDecryption (net .«num_nodes») w p (complete value)) tape))
-        (λ _ w q. ends (going tt) (accept w p) q)
+        (λ _ w tape. ends (going tt) (accept w p) tape)
 
     -- the next m contributions, from the i-th on, in the order of their arrival
     unfoldable pub handleFrom : ℕ → ℕ → List ℕ → Tape → Run (List ℕ) (Unit {0})
     handleFrom zero i w tape = ends (going tt) w tape
     handleFrom (suc m) i w tape =
         onward
-        (handleContribution (getD w (arrivalAt (net .«num_nodes») i) 0)
-        (getD w (valueAt (net .«num_nodes») (getD w (arrivalAt (net .«num_nodes») i) 0)) 0) w tape)
-        (λ _ w q. handleFrom m (i + 1) w q)
+        (handleContribution (contributor (net .«num_nodes») w i)
+        (getD w (valueAt (net .«num_nodes») (contributor (net .«num_nodes») w i)) 0) w tape)
+        (λ _ w tape. handleFrom m (i + 1) w tape)
 
     -- the list is taken out before its contributions are handled: none is left, even after a failure
     unfoldable pub handleContributions : List ℕ → Tape → Run (List ℕ) (Unit {0})
     handleContributions w tape =
-        inside (firstContributions (net .«num_nodes») 0) (handleFrom (getD w countAt 0) 0 w tape)
+        inside (firstContributions (net .«num_nodes») 0) (handleFrom (countOf w) 0 w tape)
 
     unfoldable pub processSubset : Bool → List ℕ → Tape → Run (List ℕ) (Unit {0})
     processSubset done w tape =
         onward
         (cond (handlesNow strategy done) (handleContributions w tape) (ends (going tt) w tape))
-        (λ _ w q. cond done (finishFrom (net .«num_nodes») 0 (subsetComplete w) q) (ends (going tt) w q))
+        (λ _ w tape. cond done (finishFrom (net .«num_nodes») 0 (subsetComplete w) tape) (ends (going tt) w tape))
 
     -- a failed subset call hands up nothing: its contributions, those past the first k, are lost with its step
     unfoldable pub handedUp : ℕ → Verdict Bool → Run (List ℕ) Bool → Run (List ℕ) Bool
@@ -158,13 +156,13 @@ module _ (net : NetworkInfo) where
     callSubset call w tape =
         cond (isComplete w)
         (ends (going tt) w tape)
-        (onward (handedUp (getD w countAt 0) (call w tape .verdict) (call w tape)) processSubset)
+        (onward (handedUp (countOf w) (call w tape .verdict) (call w tape)) processSubset)
 
     -- 21 `ProposeBincode`, 22 `InputSubset`
     unfoldable pub propose : List ℕ → Tape → Run (List ℕ) (Unit {0})
     propose w tape =
-        heard (ask tape 2) w (λ a b q.
-        cond (eqb a 0) (ends (failed 21) w q) (callSubset (proposeSubset net 22) w q))
+        heard (ask tape 2) w (λ a b tape.
+        cond (eqb a 0) (ends (failed 21) w tape) (callSubset (proposeSubset net 22) w tape))
 
     -- 23 `HandleSubsetMessage`
     unfoldable pub handleMessageContent : ℕ → ℕ → MessageContent → List ℕ → Tape → Run (List ℕ) (Unit {0})

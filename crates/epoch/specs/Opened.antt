@@ -8,14 +8,13 @@ use Rattle.epoch.specs.Orders
 
 unfoldable pub opened : Unit {0}
 unfolding DecryptionOpened.opened SubsetOpened.opened
-    Words.isAccepted Words.accept Words.asks Words.isSettled
-    Words.isOpen Words.sharesFrom Words.loadInstance
-    Words.loadEntry Words.loadDecryption Words.setShares Words.storeEntry Words.storeDecryption Words.allFrom Words.recordInRange
-    Words.recordsInRange Words.epochInRange
-    Epoch.newEpoch Epoch.receivedProposals Epoch.firstContributions Epoch.entryAfter Epoch.unexpectedFrom
-    Epoch.unexpectedShares Epoch.handlesNow Epoch.subsetComplete Epoch.proposalDropped Epoch.processDecryption
-    Epoch.callEntry Epoch.inputCiphertext Epoch.sendDecryptionShare Epoch.handleDecryptionShare Epoch.finishAt
-    Epoch.finishFrom Epoch.handleContribution Epoch.handleFrom Epoch.handleContributions Epoch.processSubset Epoch.handedUp
+    Words.isAccepted Words.accept Words.asks Words.isSettled Words.isOpen Words.sharesFrom Words.loadInstance
+    Words.loadEntry Words.loadDecryption Words.setShares Words.storeEntry Words.storeDecryption Words.allFrom
+    Words.recordInRange Words.recordsInRange Words.epochInRange
+    Epoch.receivedProposals Epoch.firstContributions Epoch.entryAfter Epoch.unexpectedFrom Epoch.unexpectedShares
+    Epoch.handlesNow Epoch.subsetComplete Epoch.proposalDropped Epoch.processDecryption Epoch.callEntry
+    Epoch.inputCiphertext Epoch.sendDecryptionShare Epoch.handleDecryptionShare Epoch.finishAt Epoch.finishFrom
+    Epoch.handleContribution Epoch.handleFrom Epoch.handleContributions Epoch.processSubset Epoch.handedUp
     Epoch.callSubset Epoch.propose Epoch.handleMessageContent
     Batch.decryptedFrom Batch.isReadyIn Batch.isRead Batch.readAt Batch.readFrom Batch.entriesFrom Batch.outputBatchIn
     Orders.receivedBits Orders.isUnexpected Orders.bySender Orders.byProposer Orders.arrivals Orders.handleEach

@@ -7,21 +7,20 @@ use lib.Dec.{eqb, leb, ltb}
 use Rattle.steps.specs.Bits.{hasBit, withBit}
 use Rattle.decryption.specs.declared.ThresholdDecrypt.{ThresholdDecrypt}
 use Rattle.decryption.specs.Decrypt.{new}
-use Rattle.subset.specs.Words.{fieldAt, recordAt, statusAt, decidedAt, acceptedAt, countAt, proposalAt, valueAt, arrivalAt, epochLength}
+use Rattle.subset.specs.Words.{statusVacant, statusComplete, statusOf, fieldAt, recordAt, tagCompleteTrue, decidedAt, acceptedAt, acceptedOf, countOf, proposalAt, valueAt, arrivalAt}
 
--- status: 0 there is no such epoch, 1 `SubsetState::Ongoing`, 2 `SubsetState::Complete`
 abbrev pub isVacant : List ℕ → Bool
-isVacant w = eqb (getD w statusAt 0) 0
+isVacant w = eqb (statusOf w) statusVacant
 
 abbrev pub isComplete : List ℕ → Bool
-isComplete w = eqb (getD w statusAt 0) 2
+isComplete w = eqb (statusOf w) statusComplete
 
 -- THE ACCEPTED PROPOSERS, a word of bits
 unfoldable pub isAccepted : List ℕ → ℕ → Bool
-isAccepted w p = hasBit (getD w acceptedAt 0) p
+isAccepted w p = hasBit (acceptedOf w) p
 
 unfoldable pub accept : List ℕ → ℕ → List ℕ
-accept w p = set w acceptedAt (withBit (getD w acceptedAt 0) p)
+accept w p = set w acceptedAt (withBit (acceptedOf w) p)
 
 -- THE DECRYPTION of a proposer's contribution: no entry, one that is ongoing, or one that is complete with its plaintext
 pub data DecryptionState : Type 0 where
@@ -104,8 +103,8 @@ loadEntry n w p = cond (eqb (getD w (decryptionAt n p) 0) entryNone) new (loadIn
 
 unfoldable pub loadDecryption : ℕ → List ℕ → ℕ → DecryptionState
 loadDecryption n w p =
-    cond (eqb (getD w (decryptionAt n p) 0) 0) missing
-    (cond (eqb (getD w (decryptionAt n p) 0) 1) (ongoing (loadInstance n w p)) (complete (getD w (plaintextAt n p) 0)))
+    cond (eqb (getD w (decryptionAt n p) 0) entryNone) missing
+    (cond (eqb (getD w (decryptionAt n p) 0) entryOngoing) (ongoing (loadInstance n w p)) (complete (getD w (plaintextAt n p) 0)))
 
 -- the words of an entry: decryption, plaintext, ciphertext, had input, terminated, and the shares
 unfoldable pub setShares : ℕ → ℕ → ℕ → ℕ → List ℕ → List ℕ → List ℕ
@@ -126,9 +125,9 @@ storeEntry n w p tag plaintext td =
     (terminatedAt n p) (flag (td .terminated)))
 
 unfoldable pub storeDecryption : ℕ → List ℕ → ℕ → DecryptionState → List ℕ
-storeDecryption n w p missing = storeEntry n w p 0 0 new
-storeDecryption n w p (ongoing td) = storeEntry n w p 1 0 td
-storeDecryption n w p (complete plaintext) = storeEntry n w p 2 plaintext new
+storeDecryption n w p missing = storeEntry n w p entryNone 0 new
+storeDecryption n w p (ongoing td) = storeEntry n w p entryOngoing 0 td
+storeDecryption n w p (complete plaintext) = storeEntry n w p entryComplete plaintext new
 
 -- THE RANGE RULE of an epoch's words. A handle, or 0 for none, is below 2^32
 abbrev pub maybeHandle : ℕ → Bool
@@ -141,9 +140,9 @@ allFrom is (suc m) i w = is (getD w i 0) && allFrom is m (i + 1) w
 
 unfoldable pub recordInRange : ℕ → List ℕ → ℕ → Bool
 recordInRange n w p =
-    leb (getD w (proposalAt n p) 0) 4
+    leb (getD w (proposalAt n p) 0) tagCompleteTrue
     && maybeHandle (getD w (valueAt n p) 0)
-    && leb (getD w (decryptionAt n p) 0) 2
+    && leb (getD w (decryptionAt n p) 0) entryComplete
     && maybeHandle (getD w (plaintextAt n p) 0)
     && maybeHandle (getD w (ciphertextAt n p) 0)
     && leb (getD w (hadInputAt n p) 0) 1
@@ -157,9 +156,9 @@ recordsInRange n (suc m) p w = recordInRange n w p && recordsInRange n m (p + 1)
 
 unfoldable pub epochInRange : ℕ → List ℕ → Bool
 epochInRange n w =
-    leb (getD w statusAt 0) 2
+    leb (statusOf w) statusComplete
     && leb (getD w decidedAt 0) 1
-    && ltb (getD w acceptedAt 0) (2 ^ n)
-    && leb (getD w countAt 0) n
+    && ltb (acceptedOf w) (2 ^ n)
+    && leb (countOf w) n
     && allFrom (λ x. eqb x 0) 12 4 w
     && recordsInRange n n 0 w

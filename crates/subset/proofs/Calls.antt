@@ -19,7 +19,7 @@ use Rattle.steps.proofs.Chains.{Good, Instance, bit-or, low-no-part, orElse-non
 use Rattle.subset.specs.declared.ProposalState.{ProposalState}
 use Rattle.subset.specs.Words.{decidedAt, countAt, proposalAt, valueAt, arrivalAt, loadProposal, storeProposal}
 use Rattle.subset.specs.Proposal.{asksAgreement, asksBroadcast, instanceAnswer, handleAgreement, handleBroadcast}
-use Rattle.subset.specs.Subset.{completeFrom, contributed, atProposal, broadcastAt, agreementAt, voteFrom, votes, tryOutput, propose, handleMessage}
+use Rattle.subset.specs.Subset.{allComplete, contributed, atProposal, broadcastAt, agreementAt, voteFrom, votes, tryOutput, propose, handleMessage}
 use Rattle.subset.specs.Rule.{settledFrom, isOver, SubsetCall, proposing, broadcasting, agreeing, callSubset}
 use Rattle.subset.proofs.After.{After, after-map, after-cond, after-onward, after-inside}
 use Rattle.subset.proofs.Proposals.{stateOf, outputOf, instance-ok, Agreed, agreement-ok, Went, went-agreed, Broadcasts, broadcast-ok}
@@ -57,7 +57,7 @@ module _ (old : ℕ → Bool) where
   }
 
   begun-went : (n p : ℕ) (v d : ℕ → Option ℕ) (w : List ℕ) (ws : List Rec) (o : Option ℕ) (s : ProposalState) (r : List Rec)
-      → Held old n w v d → outputOf (v p) (d p) ≡ none → Went n p (v p) (d p) ws o s r → Begun n v d w ws (contributed n p o (storeProposal n w p s)) r
+      → Held old n w v d → outputOf (v p) (d p) ≡ none → Went n p (v p) (d p) ws o s r → Begun n v d w ws (contributed n (storeProposal n w p s) p o) r
   unfolding orElse
   begun-went n p v d w ws o s r h e t =
       let v₁ = more v p (t .took ofValue) in
@@ -111,7 +111,7 @@ module _ (old : ℕ → Bool) where
     asks : d p ≡ none → asked 7 p ws ≡ true
 
   one-agreed : (n p : ℕ) (v d : ℕ → Option ℕ) (w : List ℕ) (ws : List Rec) (o : Option ℕ) (s : ProposalState) (r : List Rec)
-      → Held old n w v d → d p ≡ none → Agreed n 7 p (v p) ws o s r → One n p v d w ws (contributed n p o (storeProposal n w p s)) r
+      → Held old n w v d → d p ≡ none → Agreed n 7 p (v p) ws o s r → One n p v d w ws (contributed n (storeProposal n w p s) p o) r
   unfolding orElse
   one-agreed n p v d w ws o s r h e a =
       let d₁ = more d p (a .answer) in
@@ -200,7 +200,7 @@ module _ (old : ℕ → Bool) where
     n = net .«num_nodes»
 
     at-ok : (p : ℕ) (w : List ℕ) (r : Run ProposalState (Option ℕ)) (Q : List ℕ → Tape → Type 0)
-        → After r (λ o s z. Q (contributed n p o (storeProposal n w p s)) z) → After (atProposal net error p w r) (λ _ w′ z. Q w′ z)
+        → After r (λ o s z. Q (contributed n (storeProposal n w p s) p o) z) → After (atProposal net error p w r) (λ _ w′ z. Q w′ z)
     unfolding atProposal
     at-ok p w r Q h = after-onward (inside (storeProposal n w p) r) _ _ (after-inside (storeProposal n w p) r _ h)
 
@@ -208,12 +208,12 @@ module _ (old : ℕ → Bool) where
       broadcast-far : (k : ℕ) → Instance k → n ≤ p → (s : ProposalState) → asksBroadcast s ≡ true → (Q : Option ℕ → ProposalState → Tape → Type 0) → After (handleBroadcast error p k s u) Q
       unfolding handleBroadcast
       broadcast-far k i l s e Q =
-          rw e (after-onward (instanceAnswer error p k 1 s u) _ Q (after-map (instanceAnswer error p k 1 s u) _ _ (instance-ok n error p k 1 i s u g) (λ out t z x. absurd (omega (arith, x .1 .named)))))
+          after-onward (instanceAnswer error p k 1 s u) _ Q (after-map (instanceAnswer error p k 1 s u) _ _ (instance-ok n error p k 1 i s u g) (λ out t z x. absurd (omega (arith, x .1 .named))))
 
       agreement-far : (k : ℕ) → Instance k → n ≤ p → (s : ProposalState) → asksAgreement s ≡ true → (Q : Option ℕ → ProposalState → Tape → Type 0) → After (handleAgreement error p k s u) Q
       unfolding handleAgreement
       agreement-far k i l s e Q =
-          rw e (after-onward (instanceAnswer error p k 2 s u) _ Q (after-map (instanceAnswer error p k 2 s u) _ _ (instance-ok n error p k 2 i s u g) (λ out t z x. absurd (omega (arith, x .1 .named)))))
+          after-onward (instanceAnswer error p k 2 s u) _ Q (after-map (instanceAnswer error p k 2 s u) _ _ (instance-ok n error p k 2 i s u g) (λ out t z x. absurd (omega (arith, x .1 .named))))
 
       pub broadcast-at : (k : ℕ) → Broadcasts k → After (broadcastAt net error k p w u) (λ _ w′ z. Begun n v d w (u .rest) w′ (z .rest))
       unfolding broadcastAt
@@ -356,7 +356,7 @@ module _ (old : ℕ → Bool) where
 
     -- the end of `tryOutput`
     abbrev finish : List ℕ → Tape → Run (List ℕ) Bool
-    finish w q = cond (completeFrom m m 0 w) (ends (going true) (set w decidedAt 1) q) (ends (going false) w q)
+    finish w q = cond (allComplete m w) (ends (going true) (set w decidedAt 1) q) (ends (going false) w q)
 
     pub try-ok : (over : Bool) → (over ≡ true → isOver net v d ≡ true) → getD w decidedAt 0 ≡ cond over 1 0
         → After (tryOutput net error w u) (λ done w′ z. Tried net over v d (u .rest) done w′ (z .rest))

@@ -257,13 +257,13 @@ module _ (old : ℕ → Bool) where
       pub held : Held n u v′ d′
       pub decided : getD u decidedAt 0 ≡ getD w decidedAt 0
 
-    pub held-move : (s : ProposalState) (o : Option ℕ) → s ≡ state → o ≡ outputOf (v′ p) (d′ p) → After-move (contributed n p o (storeProposal n w p s))
+    pub held-move : (s : ProposalState) (o : Option ℕ) → s ≡ state → o ≡ outputOf (v′ p) (d′ p) → After-move (contributed n (storeProposal n w p s) p o)
     unfolding contributed
     held-move s o e f = rw e (go o f)
       where
         decides : getD stored decidedAt 0 ≡ getD w decidedAt 0
         decides = store-word n w p state decidedAt (λ e. omega arith) (λ e. omega arith)
 
-        go : (o : Option ℕ) → o ≡ outputOf (v′ p) (d′ p) → After-move (contributed n p o stored)
+        go : (o : Option ℕ) → o ≡ outputOf (v′ p) (d′ p) → After-move (contributed n stored p o)
         go none f = record { held = held-quiet (sym f); decided = decides }
         go (some x) f = record { held = held-joined x (sym f); decided = decided-joined x (sym f) ∙ decides }

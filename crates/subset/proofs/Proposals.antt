@@ -84,19 +84,13 @@ agree-move (some v) Missing = refl
 agree-move (some v) (Value zero) = refl
 agree-move (some v) (Value (suc d)) = rw (ne-eqb (suc d) 0 (λ e. omega arith))
 
-asks-undecided : (v : Option ℕ) → asksAgreement (stateOf v none) ≡ true
-unfolding asksAgreement
-asks-undecided none = refl
-asks-undecided (some v) = refl
-
 pub agreement-ok : (n error p k : ℕ) → Instance k → (v : Option ℕ) (u : Tape) → Good n (u .rest)
     → After (handleAgreement error p k (stateOf v none) u) (λ o s z. Agreed n k p v (u .rest) o s (z .rest))
 unfolding handleAgreement
 agreement-ok n error p k i v u g =
-    rw (asks-undecided v)
-    (after-onward (instanceAnswer error p k 2 (stateOf v none) u) _ _
+    after-onward (instanceAnswer error p k 2 (stateOf v none) u) _ _
     (after-map (instanceAnswer error p k 2 (stateOf v none) u) _ _ (instance-ok n error p k 2 i (stateOf v none) u g) (λ out t z h.
-    rw (h .0, agree-move v out) (record { answer = optionOf out; heard = h .1; state = refl; out = refl }))))
+    rw (h .0, agree-move v out) (record { answer = optionOf out; heard = h .1; state = refl; out = refl })))
 
 -- A BROADCAST OR AGREEMENT MESSAGE, with the vote 1 that it may bring: what it took for p, by the kinds asked about
 pub record Went (n p : ℕ) (v d : Option ℕ) (ws : List Rec) (o : Option ℕ) (s : ProposalState) (r : List Rec) : Type 0 where

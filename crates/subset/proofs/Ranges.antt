@@ -2,7 +2,7 @@
 use Prim.Native.Nat.{ℕ, zero, suc, _+_, _*_, _-_, _%_, _^_, _≤_, _<_}
 use mathlib.Core.Path.{_≡_, refl, _∙_}
 use mathlib.Core.List.{List, [], _∷_}
-use mathlib.Core.Bool.{Bool, true, false, cond}
+use mathlib.Core.Bool.{Bool, true, false, cond, _||_}
 use mathlib.Core.Option.{Option, none, some}
 use native.Mathlib.Omega.{arith}
 use native.Mathlib.Nat.{mul-add-mod-self-right, mod-eq-of-lt, two-pow-succ}
@@ -18,9 +18,9 @@ use Rattle.steps.specs.Runs.{Run}
 use Rattle.steps.proofs.Ranges.{AllSmall, Kept, Any, SmallOption, SmallOutput, kept-going, kept-failed, kept-cond, kept-about, kept-onward, kept-inside, kept-parts, Below, below-set}
 use Rattle.subset.specs.declared.ProposalState.{ProposalState}
 use Rattle.subset.specs.declared.ProposalState.the-variants.{Ongoing, HasValue, Accepted, Complete}
-use Rattle.subset.specs.Words.{recordLength, epochLength, decidedAt, countAt, recordAt, valueAt, arrivalAt, proposalOf, tagOf, valueOf, loadProposal, storeProposal, addContribution, dropFrom}
+use Rattle.subset.specs.Words.{recordLength, epochLength, decidedAt, countAt, isDecided, recordAt, valueAt, arrivalAt, proposalOf, tagOf, valueOf, loadProposal, storeProposal, addContribution, dropFrom}
 use Rattle.subset.specs.Proposal.{asksAgreement, asksBroadcast, Moved, afterAgreement, afterBroadcast, movedTo, instanceAnswer, handleAgreement, voteTrue, afterValue, handleBroadcast}
-use Rattle.subset.specs.Subset.{completeFrom, countAccepted, contributed, atProposal, broadcastAt, agreementAt, voteFrom, votes, tryOutput, propose, handleMessage}
+use Rattle.subset.specs.Subset.{allComplete, countAccepted, contributed, atProposal, broadcastAt, agreementAt, voteFrom, votes, tryOutput, propose, handleMessage}
 
 -- THE LIMIT OF A PLACE, which its word is below. The epoch's own words: status, decided, accepted, count; the rest are 0
 abbrev pub ownLimit : ℕ → ℕ → ℕ
@@ -142,9 +142,7 @@ module _ (error proposer : ℕ) where
   pub agreement-safe : (kind : ℕ) → eqb kind 16 ≡ false → SafeProposal (handleAgreement error proposer kind)
   unfolding handleAgreement SmallOption
   agreement-safe kind n s p h o =
-      kept-cond (asksAgreement s) _ _
-      (λ _. kept-onward _ _ (answer-safe kind 2 n s p h o) (λ out s q h o _. moved-safe _ q (agreement-moves s out h) o))
-      (λ _. kept-going h o tt)
+      kept-onward _ _ (answer-safe kind 2 n s p h o) (λ out s q h o _. moved-safe _ q (agreement-moves s out h) o)
 
   value-safe : (s : ProposalState) (out : Output) (p : Tape) → ProposalOk s → AllSmall (p .rest) → SmallOutput out → Kept ProposalOk SmallOption (afterValue error proposer s out p)
   unfolding afterValue voteTrue
@@ -156,9 +154,7 @@ module _ (error proposer : ℕ) where
   pub broadcast-safe : (kind : ℕ) → eqb kind 16 ≡ false → SafeProposal (handleBroadcast error proposer kind)
   unfolding handleBroadcast SmallOption
   broadcast-safe kind n s p h o =
-      kept-cond (asksBroadcast s) _ _
-      (λ _. kept-onward _ _ (answer-safe kind 1 n s p h o) (λ out s q h o u. value-safe s out q h o u))
-      (λ _. kept-going h o tt)
+      kept-onward _ _ (answer-safe kind 1 n s p h o) (λ out s q h o u. value-safe s out q h o u)
 
 -- A PROPOSAL IN ITS TWO WORDS
 tag-below : (s : ProposalState) → tagOf s < 5
@@ -208,7 +204,7 @@ module _ (n : ℕ) (w : List ℕ) (p : ℕ) (h : EpochOk n w) where
           (omega (arith, ltb-true (getD w countAt 0) n e))
       go false e = h
 
-  pub contributed-ok : (value : Option ℕ) → p < n → SmallOption value → EpochOk n (contributed n p value w)
+  pub contributed-ok : (value : Option ℕ) → p < n → SmallOption value → EpochOk n (contributed n w p value)
   unfolding contributed SmallOption
   contributed-ok none l u = h
   contributed-ok (some value) l u = add-ok value l u
@@ -260,13 +256,11 @@ module _ (net : NetworkInfo) (error : ℕ) where
   pub try-safe : SafeEpoch (net .«num_nodes») (tryOutput net error)
   unfolding tryOutput limitAt
   try-safe w p h o =
-      kept-cond (eqb (getD w decidedAt 0) 0) _ _
-      (λ _. kept-cond (ltb (countAccepted (net .«num_nodes») w) (numCorrect net)) _ _ (λ _. kept-going h o tt)
+      kept-cond (isDecided w || ltb (countAccepted (net .«num_nodes») w) (numCorrect net)) _ _ (λ _. kept-going h o tt)
       (λ _. kept-onward _ _ (votes-safe w p h o) (λ _ w q h o _.
-      kept-cond (completeFrom (net .«num_nodes») (net .«num_nodes») 0 w) _ _
+      kept-cond (allComplete (net .«num_nodes») w) _ _
       (λ _. kept-going (set-own (net .«num_nodes») w decidedAt 1 h (omega arith)) o tt)
-      (λ _. kept-going h o tt))))
-      (λ _. kept-going h o tt)
+      (λ _. kept-going h o tt)))
 
   -- the own proposal is broadcast
   pub propose-safe : SafeEpoch (net .«num_nodes») (propose net error)

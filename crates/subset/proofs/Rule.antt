@@ -18,7 +18,7 @@ use Rattle.steps.specs.Taken.{orElse, isThere, firstTaken, ofValue, ofDecision,
 use Rattle.steps.specs.Runs.{Verdict, going, refused, failed}
 use Rattle.steps.proofs.Laws.{and-true}
 use Rattle.steps.proofs.Chains.{orElse-none, orElse-assoc, Bit, table-good}
-use Rattle.subset.specs.Words.{epochLength, decidedAt, countAt, proposalAt, valueAt, arrivalAt, proposalOf, loadProposal}
+use Rattle.subset.specs.Words.{newEpoch, epochLength, decidedAt, countAt, proposalAt, valueAt, arrivalAt, proposalOf, loadProposal}
 use Rattle.subset.specs.Rule.{settledFrom, isOver, SubsetEvent, answers, tablesOk, takenBy, callSubset, wordsAs, thenWords, wordsAfter, blank, Contribution, contributionsFrom, contributions, SubsetRule}
 use Rattle.subset.proofs.After.{AfterAs}
 use Rattle.subset.proofs.Proposals.{outputOf}
@@ -170,10 +170,11 @@ unfolding isOver
 blank-over net k = rw (unsettled (net .«num_nodes») 0 (k .some))
 
 pub blank-word : (n i : ℕ) → (i ≡ 0 → ⊥) → getD (blank n) i 0 ≡ 0
+unfolding newEpoch
 blank-word n i ne = getD-set-other (replicate (epochLength n) 0) 0 i 1 0 ne ∙ zeros (epochLength n) i
 
 pub blank-held : (old : ℕ → Bool) → ((q : ℕ) → old q ≡ false) → (n : ℕ) → Held old n (blank n) nothing nothing
-unfolding loadProposal proposalOf isThere Bit
+unfolding newEpoch loadProposal proposalOf isThere Bit
 blank-held old f n = record {
   size = length-set (replicate (epochLength n) 0) 0 1 ∙ length-replicate (epochLength n) 0;
   load = λ q l. rw (blank-word n (proposalAt n q) (λ e. omega arith));

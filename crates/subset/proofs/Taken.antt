@@ -1,10 +1,12 @@
 -- What is taken stays taken, and what the words' tests say of it. Assumes nothing.
-use Prim.Native.Nat.{ℕ, zero, suc, _+_, _≤_}
+use Prim.Native.Nat.{ℕ, zero, suc, _+_, _≤_, _<_}
 use mathlib.Core.Path.{_≡_, refl, sym, ap, _∙_}
 use mathlib.Core.List.{List}
+use mathlib.Core.Logic.{_⊎_, inl, inr}
 use mathlib.Core.Bool.{Bool, true, false, cond, _&&_, _||_, not, false≢true}
 use mathlib.Core.Option.{Option, none, some}
 use native.Mathlib.Omega.{arith}
+use lib.ListN.{getD}
 use lib.Dec.{eqb, leb}
 use borrow.Author.Tests.{eqb-true, eq-eqb, ne-eqb, leb-true, le-leb}
 use Rattle.steps.specs.declared.network_info.NetworkInfo.{NetworkInfo}
@@ -13,6 +15,8 @@ use Rattle.steps.specs.Answers.{Rec}
 use Rattle.steps.specs.Taken.{orElse, isThere, isTrue, firstTaken, ofValue, ofDecision, asked, onesFrom}
 use Rattle.steps.proofs.Laws.{and-true}
 use Rattle.steps.proofs.Chains.{orElse-assoc, Bit}
+use Rattle.subset.specs.declared.ProposalState.the-variants.{Complete}
+use Rattle.subset.specs.Words.{recordLength, proposalAt, valueAt, tagAccepted, tagCompleteFalse, tagCompleteTrue, proposalOf, tagOf, loadProposal}
 use Rattle.subset.specs.Proposal.{accepted, complete}
 use Rattle.subset.specs.Subset.{countFrom, completeFrom}
 use Rattle.subset.specs.Rule.{settledFrom, isOver}
@@ -137,9 +141,31 @@ unfolding onesFrom
 ones-same d d′ h zero i = refl
 ones-same d d′ h (suc m) i = rw (h i, ones-same d d′ h m (i + 1))
 
--- WHAT THE WORDS SAY
-accepted-is : (v d : Option ℕ) → Bit d → accepted (stateOf v d) ≡ isTrue d
-unfolding accepted isTrue Bit
+-- WHAT THE WORDS SAY. A tag is that of the state that it reads as, or is above all tags
+tag-known : (tag value : ℕ) → (tagOf (proposalOf tag value) ≡ tag) ⊎ ((tagCompleteTrue ≤ tag) × (proposalOf tag value ≡ Complete true))
+unfolding proposalOf tagOf
+tag-known zero value = inl refl
+tag-known (suc zero) value = inl refl
+tag-known (suc (suc zero)) value = inl refl
+tag-known (suc (suc (suc zero))) value = inl refl
+tag-known (suc (suc (suc (suc t)))) value =
+    let tag = suc (suc (suc (suc t))) in
+    inr (omega arith, rw (ne-eqb tag 0 (λ e. omega arith), ne-eqb tag 1 (λ e. omega arith), ne-eqb tag 2 (λ e. omega arith), ne-eqb tag 3 (λ e. omega arith)))
+
+or-right : (x y : Bool) → y ≡ true → x || y ≡ true
+or-right true y e = refl
+or-right false y e = e
+
+accepted-tag : (tag value : ℕ) → accepted tag ≡ accepted (tagOf (proposalOf tag value))
+unfolding accepted tagOf
+accepted-tag tag value = elim (tag-known tag value) [ inl e ↦ rw e | inr e ↦ rw (e .1) (or-right (eqb tag tagAccepted) _ (le-leb tagCompleteTrue tag (e .0))) ]
+
+complete-tag : (tag value : ℕ) → complete tag ≡ complete (tagOf (proposalOf tag value))
+unfolding complete tagOf
+complete-tag tag value = elim (tag-known tag value) [ inl e ↦ rw e | inr e ↦ rw (e .1) (le-leb tagCompleteFalse tag (omega (arith, e .0))) ]
+
+accepted-is : (v d : Option ℕ) → Bit d → accepted (tagOf (stateOf v d)) ≡ isTrue d
+unfolding accepted tagOf isTrue Bit
 accepted-is none none b = refl
 accepted-is (some v) none b = refl
 accepted-is none (some zero) b = refl
@@ -148,8 +174,8 @@ accepted-is none (some (suc zero)) b = refl
 accepted-is (some v) (some (suc zero)) b = refl
 accepted-is v (some (suc (suc d))) b = absurd (omega arith)
 
-complete-is : (v d : Option ℕ) → Bit d → complete (stateOf v d) ≡ cell v d
-unfolding complete isTrue isThere Bit
+complete-is : (v d : Option ℕ) → Bit d → complete (tagOf (stateOf v d)) ≡ cell v d
+unfolding complete tagOf isTrue isThere Bit
 complete-is none none b = refl
 complete-is (some v) none b = refl
 complete-is none (some zero) b = refl
@@ -159,12 +185,20 @@ complete-is (some v) (some (suc zero)) b = refl
 complete-is v (some (suc (suc d))) b = absurd (omega arith)
 
 module _ (old : ℕ → Bool) (n : ℕ) (w : List ℕ) (v d : ℕ → Option ℕ) (h : Held old n w v d) where
-  pub accepted-ones : (m i : ℕ) → i + m ≤ n → countFrom n accepted m i w ≡ onesFrom d m i
+  accepted-at : (i : ℕ) → i < n → accepted (getD w (proposalAt n i) 0) ≡ isTrue (d i)
+  unfolding loadProposal
+  accepted-at i l = accepted-tag (getD w (proposalAt n i) 0) (getD w (valueAt n i) 0) ∙ ap (λ s. accepted (tagOf s)) (h .load i l) ∙ accepted-is (v i) (d i) (h .bits i)
+
+  complete-at : (i : ℕ) → i < n → complete (getD w (proposalAt n i) 0) ≡ cell (v i) (d i)
+  unfolding loadProposal
+  complete-at i l = complete-tag (getD w (proposalAt n i) 0) (getD w (valueAt n i) 0) ∙ ap (λ s. complete (tagOf s)) (h .load i l) ∙ complete-is (v i) (d i) (h .bits i)
+
+  pub accepted-ones : (m i : ℕ) → i + m ≤ n → countFrom (recordLength n) accepted m i w ≡ onesFrom d m i
   unfolding countFrom onesFrom
   accepted-ones zero i l = refl
-  accepted-ones (suc m) i l = rw (h .load i (omega arith), accepted-is (v i) (d i) (h .bits i), accepted-ones m (i + 1) (omega arith))
+  accepted-ones (suc m) i l = rw (accepted-at i (omega arith), accepted-ones m (i + 1) (omega arith))
 
-  pub complete-settled : (m i : ℕ) → i + m ≤ n → completeFrom n m i w ≡ settledFrom v d m i
+  pub complete-settled : (m i : ℕ) → i + m ≤ n → completeFrom (recordLength n) m i w ≡ settledFrom v d m i
   unfolding completeFrom settledFrom
   complete-settled zero i l = refl
-  complete-settled (suc m) i l = rw (h .load i (omega arith), complete-is (v i) (d i) (h .bits i), complete-settled m (i + 1) (omega arith))
+  complete-settled (suc m) i l = rw (complete-at i (omega arith), complete-settled m (i + 1) (omega arith))

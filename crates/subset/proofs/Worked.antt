@@ -13,7 +13,7 @@ use Rattle.steps.specs.Table.{recordOk, contextAfter, mayFollow, chainOk, shape
 use Rattle.steps.specs.Runs.{onwardAs, onward, heardAs, heard}
 use Rattle.steps.specs.Parts.{isPart, partEntries, outputOf, lastOf, lastOutput, partsFrom}
 use Rattle.steps.specs.Taken.{orElse, isTrue, lastOutputIn, firstTaken, ofValue, ofDecision, onesFrom}
-use Rattle.subset.specs.Words.{decidedAt, proposalOf, tagOf, valueOf, loadProposal, storeProposal, addContribution}
+use Rattle.subset.specs.Words.{newEpoch, decidedAt, proposalOf, tagOf, valueOf, loadProposal, storeProposal, addContribution}
 use Rattle.subset.specs.Proposal.{accepted, complete, afterAgreement, afterBroadcast, asksAgreement, asksBroadcast, instanceAnswer, handleAgreement, voteTrue, afterValue, handleBroadcast}
 use Rattle.subset.specs.Subset.{countFrom, completeFrom, contributed, atProposal, broadcastAt, agreementAt, voteFrom, votes, tryOutput, propose, handleMessage}
 use Rattle.subset.specs.Rule.{SubsetEvent, broadcasting, answers, tablesOk, takenBy, callSubset, wordsAs, thenWords, wordsAfter, blank, Contribution, contributionsFrom, contributions, decidedBefore7}
@@ -47,7 +47,7 @@ seen none = none
 seen (some w) = some (getD w decidedAt 0, contributions 4 w)
 
 pub four-run : seen (wordsAfter four (blank 4) (earlier ++ (third ∷ []))) ≡ some (1, contribution 0 7 ∷ contribution 1 8 ∷ contribution 2 9 ∷ [])
-unfolding link recAt onRecord walk chain askFor askAbout onwardAs onward heardAs heard isPart partEntries outputOf lastOf lastOutput partsFrom proposalOf tagOf valueOf loadProposal storeProposal addContribution accepted complete afterAgreement afterBroadcast asksAgreement asksBroadcast instanceAnswer handleAgreement voteTrue afterValue handleBroadcast countFrom completeFrom contributed atProposal broadcastAt agreementAt voteFrom votes tryOutput propose handleMessage callSubset wordsAs thenWords wordsAfter contributionsFrom
+unfolding link recAt onRecord walk chain askFor askAbout onwardAs onward heardAs heard isPart partEntries outputOf lastOf lastOutput partsFrom newEpoch proposalOf tagOf valueOf loadProposal storeProposal addContribution accepted complete afterAgreement afterBroadcast asksAgreement asksBroadcast instanceAnswer handleAgreement voteTrue afterValue handleBroadcast countFrom completeFrom contributed atProposal broadcastAt agreementAt voteFrom votes tryOutput propose handleMessage callSubset wordsAs thenWords wordsAfter contributionsFrom
 four-run = refl
 
 pub four-network : Network four

@@ -4,15 +4,15 @@ use mathlib.Core.Path.{_≡_, refl}
 use mathlib.Core.List.{List, [], _∷_}
 use mathlib.Core.Bool.{Bool, true, false}
 use mathlib.Core.Option.{Option, none, some}
-use lib.ListN.{length, getD, set, replicate}
+use lib.ListN.{length, getD}
 use Rattle.steps.specs.declared.network_info.NetworkInfo.{NetworkInfo}
 use Rattle.steps.specs.Answers.{Tape, tapeOf}
 use Rattle.steps.specs.Steps.{Item, item, chainWords, firstAt}
 use Rattle.steps.specs.Runs.{Verdict, going, refused, failed, Run}
 use Rattle.subset.specs.declared.ProposalState.{ProposalState}
 use Rattle.subset.specs.declared.ProposalState.the-variants.{Ongoing, HasValue, Accepted, Complete}
-use Rattle.subset.specs.Words.{epochLength, statusAt, countAt, valueAt, arrivalAt, loadProposal, storeProposal}
-use Rattle.subset.specs.Proposal.{handleAgreement, handleBroadcast, voteFalse}
+use Rattle.subset.specs.Words.{newEpoch, countOf, valueAt, arrivalAt, loadProposal, storeProposal}
+use Rattle.subset.specs.Proposal.{handleAgreement, handleBroadcast}
 use Rattle.subset.specs.Subset.{receivedProposals, countAccepted, tryOutput, propose, handleMessage}
 use Rattle.subset.specs.Opened.{opened}
 
@@ -45,7 +45,7 @@ storeFrom n p [] w = w
 storeFrom n p (s ∷ ss) w = storeFrom n (p + 1) ss (storeProposal n w p s)
 
 unfoldable pub wordsOf : List ProposalState → List ℕ
-wordsOf ss = storeFrom (length ss) 0 ss (set (replicate (epochLength (length ss)) 0) statusAt 1)
+wordsOf ss = storeFrom (length ss) 0 ss (newEpoch (length ss))
 
 unfoldable pub loadFrom : ℕ → ℕ → ℕ → List ℕ → List ProposalState
 loadFrom n zero p w = []
@@ -59,22 +59,22 @@ abbrev pub node0 : ℕ → NetworkInfo
 node0 n = record { «num_nodes» = n; «num_faulty» = (n - 1) / 3; «our_id» = 0; «has_key» = true }
 
 unfoldable pub callProposal : Call → ProposalState → Tape → Run ProposalState (Option ℕ)
-callProposal own s p = handleBroadcast 22 0 3 s p
-callProposal (broadcast _) s p = handleBroadcast 23 0 4 s p
-callProposal (agreement _) s p = handleAgreement 23 0 5 s p
-callProposal vote s p = voteFalse 23 0 s p
+callProposal own s tape = handleBroadcast 22 0 3 s tape
+callProposal (broadcast _) s tape = handleBroadcast 23 0 4 s tape
+callProposal (agreement _) s tape = handleAgreement 23 0 5 s tape
+callProposal vote s tape = handleAgreement 23 0 7 s tape
 
 unfoldable pub callSubset : NetworkInfo → Call → List ℕ → Tape → Run (List ℕ) Bool
-callSubset net own w p = propose net 22 w p
-callSubset net (broadcast q) w p = handleMessage net 23 1 q w p
-callSubset net (agreement q) w p = handleMessage net 23 2 q w p
-callSubset net vote w p = tryOutput net 23 w p
+callSubset net own w tape = propose net 22 w tape
+callSubset net (broadcast p) w tape = handleMessage net 23 1 p w tape
+callSubset net (agreement p) w tape = handleMessage net 23 2 p w tape
+callSubset net vote w tape = tryOutput net 23 w tape
 
 abbrev pub movedIn : Run ProposalState (Option ℕ) → Seen
 movedIn r = moved (r .verdict) (r .state) (length (r .tape .rest))
 
 abbrev pub leftIn : ℕ → Run (List ℕ) Bool → Seen
-leftIn n r = left (r .verdict) (loadFrom n n 0 (r .state)) (contributionsFrom n (getD (r .state) countAt 0) 0 (r .state)) (length (r .tape .rest))
+leftIn n r = left (r .verdict) (loadFrom n n 0 (r .state)) (contributionsFrom n (countOf (r .state)) 0 (r .state)) (length (r .tape .rest))
 
 unfoldable pub seenOf : Op → Seen
 seenOf (proposal s call rs) = movedIn (callProposal call s (answers rs))
@@ -133,21 +133,14 @@ proposals =
     ∷ (proposal Ongoing (agreement 0) (yes 5 0 ∷ out 1 ∷ out 0 ∷ []) ⇒ moved (going none) (Complete false) 0)
     ∷ (proposal Ongoing (agreement 0) (no 5 0 ∷ []) ⇒ moved (failed 23) Ongoing 0)
     ∷ (proposal Ongoing vote (yes 7 0 ∷ out 1 ∷ []) ⇒ moved (going none) Accepted 0)
-    -- HasValue: no call for broadcast
-    ∷ (proposal (HasValue 7) (broadcast 0) (yes 4 0 ∷ []) ⇒ moved (going none) (HasValue 7) 1)
+    -- HasValue
     ∷ (proposal (HasValue 7) (agreement 0) (yes 5 0 ∷ []) ⇒ moved (going none) (HasValue 7) 0)
     ∷ (proposal (HasValue 7) (agreement 0) (yes 5 0 ∷ out 1 ∷ []) ⇒ moved (going (some 7)) (Complete true) 0)
     ∷ (proposal (HasValue 7) (agreement 0) (yes 5 0 ∷ out 0 ∷ []) ⇒ moved (going none) (Complete false) 0)
     ∷ (proposal (HasValue 7) vote (yes 7 0 ∷ out 1 ∷ []) ⇒ moved (going (some 7)) (Complete true) 0)
-    -- Accepted: no call for agreement, and no vote when the value comes
-    ∷ (proposal Accepted (agreement 0) (yes 5 0 ∷ []) ⇒ moved (going none) Accepted 1)
-    ∷ (proposal Accepted vote (yes 7 0 ∷ []) ⇒ moved (going none) Accepted 1)
+    -- Accepted: no vote when the value comes
     ∷ (proposal Accepted (broadcast 0) (yes 4 0 ∷ []) ⇒ moved (going none) Accepted 0)
     ∷ (proposal Accepted (broadcast 0) (yes 4 0 ∷ out 7 ∷ yes 6 0 ∷ []) ⇒ moved (going (some 7)) (Complete true) 1)
-    -- Complete: no call at all
-    ∷ (proposal (Complete true) (broadcast 0) (yes 4 0 ∷ []) ⇒ moved (going none) (Complete true) 1)
-    ∷ (proposal (Complete false) (agreement 0) (yes 5 0 ∷ []) ⇒ moved (going none) (Complete false) 1)
-    ∷ (proposal (Complete false) vote (yes 7 0 ∷ []) ⇒ moved (going none) (Complete false) 1)
     ∷ []
 
 -- THE SUBSET
@@ -156,6 +149,15 @@ subsets =
     -- received: HasValue or Complete with 1, and not Accepted; accepted: Accepted or Complete with 1
     (counts (Ongoing ∷ HasValue 7 ∷ Accepted ∷ Complete false ∷ []) ⇒ counted 1 1)
     ∷ (counts (Accepted ∷ Accepted ∷ Complete true ∷ Complete true ∷ []) ⇒ counted 2 4)
+    -- HasValue: no call for broadcast; Accepted: none for agreement, and no vote; Complete: no call at all
+    ∷ (subset (HasValue 7 ∷ []) (broadcast 0) (yes 4 0 ∷ []) ⇒ left (going false) (HasValue 7 ∷ []) [] 1)
+    ∷ (subset (HasValue 7 ∷ []) own (yes 3 0 ∷ []) ⇒ left (going false) (HasValue 7 ∷ []) [] 1)
+    ∷ (subset (Accepted ∷ []) (agreement 0) (yes 5 0 ∷ []) ⇒ left (going false) (Accepted ∷ []) [] 1)
+    ∷ (subset (Accepted ∷ []) vote (yes 7 0 ∷ []) ⇒ left (going false) (Accepted ∷ []) [] 1)
+    ∷ (subset (Complete true ∷ []) (broadcast 0) (yes 4 0 ∷ []) ⇒ left (going true) (Complete true ∷ []) [] 1)
+    ∷ (subset (Complete false ∷ []) (agreement 0) (yes 5 0 ∷ []) ⇒ left (going false) (Complete false ∷ []) [] 1)
+    ∷ (subset (Accepted ∷ Accepted ∷ Accepted ∷ Complete false ∷ []) vote (yes 7 3 ∷ [])
+    ⇒ left (going false) (Accepted ∷ Accepted ∷ Accepted ∷ Complete false ∷ []) [] 1)
     -- below N−f: no vote
     ∷ (subset (Accepted ∷ Ongoing ∷ Ongoing ∷ Ongoing ∷ []) (agreement 1) (yes 5 1 ∷ out 1 ∷ yes 7 2 ∷ [])
     ⇒ left (going false) (Accepted ∷ Accepted ∷ Ongoing ∷ Ongoing ∷ []) [] 1)

@@ -7,7 +7,8 @@ use Rattle.subset.specs.Bits
 
 unfoldable pub opened : Unit {0}
 unfolding StepsOpened.opened
-    Words.proposalOf Words.tagOf Words.valueOf Words.loadProposal Words.storeProposal Words.addContribution Words.dropFrom
+    Words.newEpoch Words.proposalOf Words.tagOf Words.valueOf Words.loadProposal Words.storeProposal
+    Words.addContribution Words.dropFrom
     Proposal.received Proposal.accepted Proposal.complete Proposal.afterAgreement Proposal.afterBroadcast
     Proposal.asksAgreement Proposal.asksBroadcast Proposal.instanceAnswer Proposal.handleAgreement Proposal.voteTrue
     Proposal.afterValue Proposal.handleBroadcast

@@ -1,8 +1,8 @@
 -- A proposal, after proposal_state.rs. `error` is the number that the caller gives a failure, 22 or 23.
 use Prim.Native.Nat.{ℕ, zero, suc}
-use mathlib.Core.Bool.{Bool, true, false, cond}
+use mathlib.Core.Bool.{Bool, true, false, cond, _||_}
 use mathlib.Core.Option.{Option, none, some}
-use lib.Dec.{eqb}
+use lib.Dec.{eqb, leb}
 use Rattle.steps.specs.declared.reader.Output.{Output}
 use Rattle.steps.specs.declared.reader.Output.the-variants.{Missing, Value}
 use Rattle.steps.specs.Answers.{Tape, askAbout}
@@ -10,27 +10,19 @@ use Rattle.steps.specs.Runs.{going, failed, Run, ends, onward, heard}
 use Rattle.steps.specs.Parts.{readParts}
 use Rattle.subset.specs.declared.ProposalState.{ProposalState}
 use Rattle.subset.specs.declared.ProposalState.the-variants.{Ongoing, HasValue, Accepted, Complete}
+use Rattle.subset.specs.Words.{tagHasValue, tagAccepted, tagCompleteFalse, tagCompleteTrue}
 
--- the value is here, or was output
-unfoldable pub received : ProposalState → Bool
-received Ongoing = false
-received (HasValue v) = true
-received Accepted = false
-received (Complete b) = b
+-- THREE TESTS of a proposal, by its tag: the value is here, or was output
+unfoldable pub received : ℕ → Bool
+received tag = eqb tag tagHasValue || leb tagCompleteTrue tag
 
 -- the agreement has decided 1, whether the value is here or not
-unfoldable pub accepted : ProposalState → Bool
-accepted Ongoing = false
-accepted (HasValue v) = false
-accepted Accepted = true
-accepted (Complete b) = b
+unfoldable pub accepted : ℕ → Bool
+accepted tag = eqb tag tagAccepted || leb tagCompleteTrue tag
 
 -- rejected, or accepted and output
-unfoldable pub complete : ProposalState → Bool
-complete Ongoing = false
-complete (HasValue v) = false
-complete Accepted = false
-complete (Complete b) = true
+unfoldable pub complete : ℕ → Bool
+complete tag = leb tagCompleteFalse tag
 
 -- a proposal's state and the value that it outputs, if it does
 pub record Moved : Type 0 where
@@ -53,9 +45,9 @@ afterAgreement (Complete b) out = moved (Complete b) none
 unfoldable pub afterBroadcast : ProposalState → Output → Moved
 afterBroadcast Ongoing Missing = moved Ongoing none
 afterBroadcast Ongoing (Value v) = moved (HasValue v) none
-afterBroadcast (HasValue v) out = moved (HasValue v) none
 afterBroadcast Accepted Missing = moved Accepted none
 afterBroadcast Accepted (Value v) = moved (Complete true) (some v)
+afterBroadcast (HasValue v) out = moved (HasValue v) none
 afterBroadcast (Complete b) out = moved (Complete b) none
 
 -- "No outside call is made in HasValue for broadcast, in Accepted for agreement, in Complete at all."
@@ -67,42 +59,34 @@ asksAgreement (Complete b) = false
 
 unfoldable pub asksBroadcast : ProposalState → Bool
 asksBroadcast Ongoing = true
-asksBroadcast (HasValue v) = false
 asksBroadcast Accepted = true
+asksBroadcast (HasValue v) = false
 asksBroadcast (Complete b) = false
 
 abbrev pub movedTo : Moved → Tape → Run ProposalState (Option ℕ)
-movedTo m p = ends (going (m .value)) (m .state) p
+movedTo m tape = ends (going (m .value)) (m .state) tape
 
-module _ (error proposer : ℕ) where
-  -- `convert_bc` and `convert_ba`: an instance's answer of this kind about the proposer, and its last output
+module _ (error p : ℕ) where
+  -- `convert_bc` and `convert_ba`: an instance's answer of this kind about proposer p, and its last output
   unfoldable pub instanceAnswer : ℕ → ℕ → ProposalState → Tape → Run ProposalState Output
-  instanceAnswer kind content s p =
-      heard (askAbout p kind proposer) s (λ a b q.
-      cond (eqb a 0) (ends (failed error) s q) (readParts content proposer s q))
+  instanceAnswer kind content s tape =
+      heard (askAbout tape kind p) s (λ a b tape.
+      cond (eqb a 0) (ends (failed error) s tape) (readParts content p s tape))
 
-  -- an agreement message (kind 5), propose(true) (6) or propose(false) (7)
+  -- an agreement message (kind 5), propose(true) (6) or propose(false) (7), of a proposal that asks its agreement
   unfoldable pub handleAgreement : ℕ → ProposalState → Tape → Run ProposalState (Option ℕ)
-  handleAgreement kind s p =
-      cond (asksAgreement s)
-      (onward (instanceAnswer kind 2 s p) (λ out s q. movedTo (afterAgreement s out) q))
-      (ends (going none) s p)
+  handleAgreement kind s tape =
+      onward (instanceAnswer kind 2 s tape) (λ out s tape. movedTo (afterAgreement s out) tape)
 
   -- the value has come while the agreement is undecided: a vote 1 for it. "If propose(true) fails after a value, the proposal keeps HasValue."
   unfoldable pub voteTrue : Moved → Tape → Run ProposalState (Option ℕ)
-  voteTrue m p = cond (asksAgreement (m .state)) (handleAgreement 6 (m .state) p) (movedTo m p)
+  voteTrue m tape = cond (asksAgreement (m .state)) (handleAgreement 6 (m .state) tape) (movedTo m tape)
 
   unfoldable pub afterValue : ProposalState → Output → Tape → Run ProposalState (Option ℕ)
-  afterValue s Missing p = movedTo (afterBroadcast s Missing) p
-  afterValue s (Value v) p = voteTrue (afterBroadcast s (Value v)) p
+  afterValue s Missing tape = movedTo (afterBroadcast s Missing) tape
+  afterValue s (Value v) tape = voteTrue (afterBroadcast s (Value v)) tape
 
-  -- `Broadcast::broadcast` (kind 3) or `Broadcast::handle_message` (4)
+  -- `Broadcast::broadcast` (kind 3) or `Broadcast::handle_message` (4), of a proposal that asks its broadcast
   unfoldable pub handleBroadcast : ℕ → ProposalState → Tape → Run ProposalState (Option ℕ)
-  handleBroadcast kind s p =
-      cond (asksBroadcast s)
-      (onward (instanceAnswer kind 1 s p) (λ out s q. afterValue s out q))
-      (ends (going none) s p)
-
-  -- `vote_false`
-  abbrev pub voteFalse : ProposalState → Tape → Run ProposalState (Option ℕ)
-  voteFalse s p = handleAgreement 7 s p
+  handleBroadcast kind s tape =
+      onward (instanceAnswer kind 1 s tape) (λ out s tape. afterValue s out tape)

@@ -5,7 +5,7 @@ use mathlib.Core.Path.{_≡_}
 use mathlib.Core.List.{List, [], _∷_, _++_, List·Memᴰ}
 use mathlib.Core.Bool.{Bool, true, false, cond, _&&_, _||_, not}
 use mathlib.Core.Option.{Option, none, some}
-use lib.ListN.{getD, set, replicate}
+use lib.ListN.{getD}
 use lib.Dec.{eqb, leb}
 use Rattle.steps.specs.declared.network_info.NetworkInfo.{NetworkInfo}
 use Rattle.steps.specs.Network.{Network, numCorrect}
@@ -13,7 +13,7 @@ use Rattle.steps.specs.Answers.{Rec, Tape, tapeOf}
 use Rattle.steps.specs.Table.{within, tableOk}
 use Rattle.steps.specs.Taken.{orElse, isThere, isTrue, firstTaken, ofValue, ofDecision, asked, onesFrom}
 use Rattle.steps.specs.Runs.{Verdict, going, refused, failed, Run}
-use Rattle.subset.specs.Words.{epochLength, decidedAt, countAt, valueAt, arrivalAt}
+use Rattle.subset.specs.Words.{newEpoch, decidedAt, countAt, valueAt, arrivalAt}
 use Rattle.subset.specs.Subset.{propose, handleMessage}
 
 -- all agreements of the next m proposers, from p on, have decided, and every value decided 1 is here
@@ -75,7 +75,7 @@ module _ (net : NetworkInfo) where
 
 -- an epoch of which nothing is known yet
 abbrev pub blank : ℕ → List ℕ
-blank n = set (replicate (epochLength n) 0) 0 1
+blank n = newEpoch n
 
 -- a contribution, and those that have been handed up
 pub record Contribution : Type 0 where

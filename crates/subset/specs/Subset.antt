@@ -1,49 +1,55 @@
 -- The subset over the words of one epoch, after subset.rs. A run goes on with true where the subset is `Done`.
 use Prim.Native.Nat.{ℕ, zero, suc, _+_}
 use mathlib.Core.List.{List}
-use mathlib.Core.Bool.{Bool, true, false, cond, _&&_}
+use mathlib.Core.Bool.{Bool, true, false, cond, _&&_, _||_}
 use mathlib.Core.Option.{Option, none, some}
-use lib.ListN.{getD, set}
+use lib.ListN.{set}
 use lib.Dec.{eqb, ltb}
 use Rattle.steps.specs.declared.network_info.NetworkInfo.{NetworkInfo}
 use Rattle.steps.specs.Network.{isValidator, numCorrect}
 use Rattle.steps.specs.Answers.{Tape}
 use Rattle.steps.specs.Runs.{going, Run, ends, onward, inside}
 use Rattle.subset.specs.declared.ProposalState.{ProposalState}
-use Rattle.subset.specs.Words.{decidedAt, loadProposal, storeProposal, addContribution}
-use Rattle.subset.specs.Proposal.{received, accepted, complete, asksAgreement, asksBroadcast, handleAgreement, handleBroadcast, voteFalse}
+use Rattle.subset.specs.Words.{recordLength, decidedAt, isDecided, proposalIn, loadProposal, storeProposal, addContribution}
+use Rattle.subset.specs.Proposal.{received, accepted, complete, asksAgreement, asksBroadcast, handleAgreement, handleBroadcast}
 
--- how many of the next m proposals, from proposer i on, are so
-unfoldable pub countFrom : ℕ → (ProposalState → Bool) → ℕ → ℕ → List ℕ → ℕ
-countFrom n is zero i w = 0
-countFrom n is (suc m) i w = cond (is (loadProposal n w i)) 1 0 + countFrom n is m (i + 1) w
+-- In words whose records have `size` words each
+module _ (size : ℕ) where
+  -- how many of the next m proposals, from proposer p on, are so by their tag
+  unfoldable pub countFrom : (ℕ → Bool) → ℕ → ℕ → List ℕ → ℕ
+  countFrom is zero p w = 0
+  countFrom is (suc m) p w = cond (is (proposalIn size w p)) 1 0 + countFrom is m (p + 1) w
 
--- whether the next m proposals, from proposer i on, are all complete
-unfoldable pub completeFrom : ℕ → ℕ → ℕ → List ℕ → Bool
-completeFrom n zero i w = true
-completeFrom n (suc m) i w = complete (loadProposal n w i) && completeFrom n m (i + 1) w
+  -- whether the next m proposals, from proposer p on, are all complete
+  unfoldable pub completeFrom : ℕ → ℕ → List ℕ → Bool
+  completeFrom zero p w = true
+  completeFrom (suc m) p w = complete (proposalIn size w p) && completeFrom m (p + 1) w
 
 -- "the number of validators from which we have already received a proposal"
 abbrev pub receivedProposals : ℕ → List ℕ → ℕ
-receivedProposals n w = countFrom n received n 0 w
+receivedProposals n w = countFrom (recordLength n) received n 0 w
 
 -- "the number of accepted proposers"
 abbrev pub countAccepted : ℕ → List ℕ → ℕ
-countAccepted n w = countFrom n accepted n 0 w
+countAccepted n w = countFrom (recordLength n) accepted n 0 w
+
+abbrev pub allComplete : ℕ → List ℕ → Bool
+allComplete n w = completeFrom (recordLength n) n 0 w
 
 -- the contribution of proposer p, if there is one, joins the list
-unfoldable pub contributed : ℕ → ℕ → Option ℕ → List ℕ → List ℕ
-contributed n p none w = w
-contributed n p (some value) w = addContribution n w p value
+unfoldable pub contributed : ℕ → List ℕ → ℕ → Option ℕ → List ℕ
+contributed n w p none = w
+contributed n w p (some value) = addContribution n w p value
 
 module _ (net : NetworkInfo) (error : ℕ) where
   -- the proposal of p moves as the run says, and its output is handed up
   unfoldable pub atProposal : ℕ → List ℕ → Run ProposalState (Option ℕ) → Run (List ℕ) (Unit {0})
   atProposal p w r =
-      onward (inside (storeProposal (net .«num_nodes») w p) r) (λ value w q.
-      ends (going tt) (contributed (net .«num_nodes») p value w) q)
+      onward (inside (storeProposal (net .«num_nodes») w p) r) (λ value w tape.
+      ends (going tt) (contributed (net .«num_nodes») w p value) tape)
 
-  -- a broadcast or agreement answer of this kind for proposer p. Where nothing is asked, nothing changes
+  -- A broadcast or agreement answer of this kind for proposer p. Where nothing is asked no word changes: a proposal that is not called is
+  -- not stored again either, since the value word of a complete one may hold a contribution that the epoch has not handled yet
   unfoldable pub broadcastAt : ℕ → ℕ → List ℕ → Tape → Run (List ℕ) (Unit {0})
   broadcastAt kind p w tape =
       cond (asksBroadcast (loadProposal (net .«num_nodes») w p))
@@ -56,38 +62,40 @@ module _ (net : NetworkInfo) (error : ℕ) where
       (atProposal p w (handleAgreement error p kind (loadProposal (net .«num_nodes») w p) tape))
       (ends (going tt) w tape)
 
-  -- "propose(false) for every proposer in rising order, HasValue included": the next m proposers, from i on
+  -- `vote_false`: propose(false) for proposer p, if it is still possible
+  abbrev pub voteFalse : ℕ → List ℕ → Tape → Run (List ℕ) (Unit {0})
+  voteFalse p w tape = agreementAt 7 p w tape
+
+  -- "propose(false) for every proposer in rising order, HasValue included": the next m proposers, from p on
   unfoldable pub voteFrom : ℕ → ℕ → List ℕ → Tape → Run (List ℕ) (Unit {0})
-  voteFrom zero i w p = ends (going tt) w p
-  voteFrom (suc m) i w p = onward (agreementAt 7 i w p) (λ _ w q. voteFrom m (i + 1) w q)
+  voteFrom zero p w tape = ends (going tt) w tape
+  voteFrom (suc m) p w tape = onward (voteFalse p w tape) (λ _ w tape. voteFrom m (p + 1) w tape)
 
   -- "Equal: propose(false) for every proposer […]. Above: no vote."
   unfoldable pub votes : List ℕ → Tape → Run (List ℕ) (Unit {0})
-  votes w p =
+  votes w tape =
       cond (eqb (countAccepted (net .«num_nodes») w) (numCorrect net))
-      (voteFrom (net .«num_nodes») 0 w p)
-      (ends (going tt) w p)
+      (voteFrom (net .«num_nodes») 0 w tape)
+      (ends (going tt) w tape)
 
   -- "The number of accepted proposers is compared with N−f after every subset call. That holds while the subset is undecided"
   unfoldable pub tryOutput : List ℕ → Tape → Run (List ℕ) Bool
-  tryOutput w p =
-      cond (eqb (getD w decidedAt 0) 0)
-      (cond (ltb (countAccepted (net .«num_nodes») w) (numCorrect net))
-      (ends (going false) w p)
-      (onward (votes w p) (λ _ w q.
-      cond (completeFrom (net .«num_nodes») (net .«num_nodes») 0 w)
-      (ends (going true) (set w decidedAt 1) q)
-      (ends (going false) w q))))
-      (ends (going false) w p)
+  tryOutput w tape =
+      cond (isDecided w || ltb (countAccepted (net .«num_nodes») w) (numCorrect net))
+      (ends (going false) w tape)
+      (onward (votes w tape) (λ _ w tape.
+      cond (allComplete (net .«num_nodes») w)
+      (ends (going true) (set w decidedAt 1) tape)
+      (ends (going false) w tape)))
 
   -- the own proposal is broadcast
   unfoldable pub propose : List ℕ → Tape → Run (List ℕ) Bool
-  propose w p =
+  propose w tape =
       cond (isValidator net)
-      (onward (broadcastAt 3 (net .«our_id») w p) (λ _ w q. tryOutput w q))
-      (ends (going false) w p)
+      (onward (broadcastAt 3 (net .«our_id») w tape) (λ _ w tape. tryOutput w tape))
+      (ends (going false) w tape)
 
   -- content 1: a broadcast message for proposer p; content 2: an agreement message
   unfoldable pub handleMessage : ℕ → ℕ → List ℕ → Tape → Run (List ℕ) Bool
   handleMessage content p w tape =
-      onward (cond (eqb content 1) (broadcastAt 4 p w tape) (agreementAt 5 p w tape)) (λ _ w q. tryOutput w q)
+      onward (cond (eqb content 1) (broadcastAt 4 p w tape) (agreementAt 5 p w tape)) (λ _ w tape. tryOutput w tape)

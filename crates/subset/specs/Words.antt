@@ -1,18 +1,21 @@
 -- The words of one epoch, as far as the subset uses them (docs/STATE.md): 16 words, then 8 + n words for each of n proposers.
 use Prim.Native.Nat.{ℕ, zero, suc, _+_, _*_}
 use mathlib.Core.List.{List}
-use mathlib.Core.Bool.{Bool, true, false, cond}
-use lib.ListN.{getD, set}
+use mathlib.Core.Bool.{Bool, true, false, cond, not}
+use lib.ListN.{getD, set, replicate}
 use lib.Dec.{eqb, ltb}
 use Rattle.subset.specs.declared.ProposalState.{ProposalState}
 use Rattle.subset.specs.declared.ProposalState.the-variants.{Ongoing, HasValue, Accepted, Complete}
 
--- the length of a proposer's record, and of an epoch
+-- where the records begin, the length of a proposer's record, and of an epoch
+abbrev pub recordsAt : ℕ
+recordsAt = 16
+
 abbrev pub recordLength : ℕ → ℕ
 recordLength n = 8 + n
 
 abbrev pub epochLength : ℕ → ℕ
-epochLength n = 16 + n * recordLength n
+epochLength n = recordsAt + n * recordLength n
 
 -- the epoch's own words
 abbrev pub statusAt : ℕ
@@ -27,9 +30,35 @@ acceptedAt = 2
 abbrev pub countAt : ℕ
 countAt = 3
 
+-- the status: there is no such epoch, `SubsetState::Ongoing`, `SubsetState::Complete`
+abbrev pub statusVacant : ℕ
+statusVacant = 0
+
+abbrev pub statusOngoing : ℕ
+statusOngoing = 1
+
+abbrev pub statusComplete : ℕ
+statusComplete = 2
+
+abbrev pub statusOf : List ℕ → ℕ
+statusOf w = getD w statusAt 0
+
+abbrev pub isDecided : List ℕ → Bool
+isDecided w = not (eqb (getD w decidedAt 0) 0)
+
+abbrev pub acceptedOf : List ℕ → ℕ
+acceptedOf w = getD w acceptedAt 0
+
+abbrev pub countOf : List ℕ → ℕ
+countOf w = getD w countAt 0
+
+-- an epoch whose instances have just been built, of which nothing is known yet
+unfoldable pub newEpoch : ℕ → List ℕ
+newEpoch n = set (replicate (epochLength n) 0) statusAt statusOngoing
+
 -- word j of proposer p's record, where a record has `size` words
 abbrev pub fieldAt : ℕ → ℕ → ℕ → ℕ
-fieldAt size p j = 16 + p * size + j
+fieldAt size p j = recordsAt + p * size + j
 
 abbrev pub recordAt : ℕ → ℕ → ℕ → ℕ
 recordAt n p j = fieldAt (recordLength n) p j
@@ -54,19 +83,42 @@ valueAt n p = recordAt n p valueField
 abbrev pub arrivalAt : ℕ → ℕ → ℕ
 arrivalAt n i = recordAt n i arrivalField
 
--- a proposal in its two words
+abbrev pub contributor : ℕ → List ℕ → ℕ → ℕ
+contributor n w i = getD w (arrivalAt n i) 0
+
+-- the tag of a proposal where a record has `size` words
+abbrev pub proposalIn : ℕ → List ℕ → ℕ → ℕ
+proposalIn size w p = getD w (fieldAt size p proposalField) 0
+
+-- A PROPOSAL in its two words: the tag, and the value
+abbrev pub tagOngoing : ℕ
+tagOngoing = 0
+
+abbrev pub tagHasValue : ℕ
+tagHasValue = 1
+
+abbrev pub tagAccepted : ℕ
+tagAccepted = 2
+
+abbrev pub tagCompleteFalse : ℕ
+tagCompleteFalse = 3
+
+abbrev pub tagCompleteTrue : ℕ
+tagCompleteTrue = 4
+
+-- a tag above these is out of range, and reads as the last
 unfoldable pub proposalOf : ℕ → ℕ → ProposalState
 proposalOf tag value =
-    cond (eqb tag 0) Ongoing
-    (cond (eqb tag 1) (HasValue value)
-    (cond (eqb tag 2) Accepted
-    (cond (eqb tag 3) (Complete false) (Complete true))))
+    cond (eqb tag tagOngoing) Ongoing
+    (cond (eqb tag tagHasValue) (HasValue value)
+    (cond (eqb tag tagAccepted) Accepted
+    (cond (eqb tag tagCompleteFalse) (Complete false) (Complete true))))
 
 unfoldable pub tagOf : ProposalState → ℕ
-tagOf Ongoing = 0
-tagOf (HasValue v) = 1
-tagOf Accepted = 2
-tagOf (Complete b) = cond b 4 3
+tagOf Ongoing = tagOngoing
+tagOf (HasValue v) = tagHasValue
+tagOf Accepted = tagAccepted
+tagOf (Complete b) = cond b tagCompleteTrue tagCompleteFalse
 
 unfoldable pub valueOf : ProposalState → ℕ
 valueOf Ongoing = 0
@@ -84,11 +136,11 @@ storeProposal n w p s = set (set w (proposalAt n p) (tagOf s)) (valueAt n p) (va
 -- i-th, and each one's value in the record of its proposer
 unfoldable pub addContribution : ℕ → List ℕ → ℕ → ℕ → List ℕ
 addContribution n w p value =
-    cond (ltb (getD w countAt 0) n)
-    (set (set (set w (arrivalAt n (getD w countAt 0)) p) (valueAt n p) value) countAt (getD w countAt 0 + 1))
+    cond (ltb (countOf w) n)
+    (set (set (set w (arrivalAt n (countOf w)) p) (valueAt n p) value) countAt (countOf w + 1))
     w
 
 -- the list without its entries from the i-th on, of which there are m
 unfoldable pub dropFrom : ℕ → ℕ → ℕ → List ℕ → List ℕ
 dropFrom n zero i w = w
-dropFrom n (suc m) i w = dropFrom n m (i + 1) (set (set w (valueAt n (getD w (arrivalAt n i) 0)) 0) (arrivalAt n i) 0)
+dropFrom n (suc m) i w = dropFrom n m (i + 1) (set (set w (valueAt n (contributor n w i)) 0) (arrivalAt n i) 0)
