@@ -10,13 +10,11 @@ use lib.ListN.{getD}
 use lib.Dec.{eqb}
 use lib.Pow.{pow-pos, high, shr-shr, shr-lt}
 use lib.Count.{ones, ones-step, ones-cat}
-use borrow.Author.Tests.{eq-eqb, ne-eqb}
+use borrow.Author.Tests.{le-leb, eq-eqb, ne-eqb}
 use Rattle.steps.specs.Bits.{hasBit, countBits, bitsFrom}
-use Rattle.subset.specs.declared.ProposalState.{ProposalState}
-use Rattle.subset.specs.declared.ProposalState.the-variants.{Ongoing, HasValue, Accepted, Complete}
-use Rattle.subset.specs.Words.{recordLength, fieldAt, proposalField, proposalAt, valueAt, proposalOf, loadProposal}
+use Rattle.subset.specs.Words.{recordLength, valueAt, proposalIn, proposalOf, loadProposal}
 use Rattle.subset.specs.Proposal.{received, accepted, complete, asksAgreement}
-use Rattle.subset.specs.Subset.{countFrom, completeFrom, receivedProposals, countAccepted}
+use Rattle.subset.specs.Subset.{countFrom, completeFrom, receivedProposals, countAccepted, allComplete}
 use Rattle.subset.specs.Bits.{tagIn, acceptedTags, receivedTags, undecidedTags, incompleteTags, proposalsIn}
 use Rattle.subset.proofs.Counts.{countIf}
 
@@ -143,77 +141,87 @@ bit-none : (x : Bool) (i k : ℕ) → eqb (cond x (2 ^ i) 0 + k) 0 ≡ not x && 
 bit-none true i k = ne-eqb (2 ^ i + k) 0 (λ e. omega (arith, pow-pos i))
 bit-none false i k = let e : 0 + k ≡ k = omega arith in ap (λ (j : ℕ). eqb j 0) e
 
--- A SET OF TAGS means those states of a proposal that are so
-pub record Means (set : ℕ) (is : ProposalState → Bool) : Type 0 where
-  pub ongoing : hasBit set 0 ≡ is Ongoing
-  pub value : (v : ℕ) → hasBit set 1 ≡ is (HasValue v)
-  pub accepted : hasBit set 2 ≡ is Accepted
-  pub rejected : hasBit set 3 ≡ is (Complete false)
-  pub output : hasBit set 4 ≡ is (Complete true)
+-- A SET OF TAGS means those tags that are so
+pub record Means (set : ℕ) (is : ℕ → Bool) : Type 0 where
+  pub ongoing : hasBit set 0 ≡ is 0
+  pub value : hasBit set 1 ≡ is 1
+  pub accepted : hasBit set 2 ≡ is 2
+  pub rejected : hasBit set 3 ≡ is 3
+  pub output : (tag : ℕ) → 4 ≤ tag → hasBit set 4 ≡ is tag
 
 pub accepted-means : Means acceptedTags accepted
 unfolding hasBit accepted
-accepted-means = record { ongoing = refl; value = λ v. refl; accepted = refl; rejected = refl; output = refl }
+accepted-means =
+    record { ongoing = refl; value = refl; accepted = refl; rejected = refl; output = λ tag l. rw (ne-eqb tag 2 (λ e. omega arith), le-leb 4 tag l) }
 
 pub received-means : Means receivedTags received
 unfolding hasBit received
-received-means = record { ongoing = refl; value = λ v. refl; accepted = refl; rejected = refl; output = refl }
+received-means =
+    record { ongoing = refl; value = refl; accepted = refl; rejected = refl; output = λ tag l. rw (ne-eqb tag 1 (λ e. omega arith), le-leb 4 tag l) }
 
--- those that an agreement is asked about, and so votes 0 too
-pub undecided-means : Means undecidedTags asksAgreement
-unfolding hasBit asksAgreement
-undecided-means = record { ongoing = refl; value = λ v. refl; accepted = refl; rejected = refl; output = refl }
-
-pub incomplete-means : Means incompleteTags (λ s. not (complete s))
+pub incomplete-means : Means incompleteTags (λ tag. not (complete tag))
 unfolding hasBit complete
-incomplete-means = record { ongoing = refl; value = λ v. refl; accepted = refl; rejected = refl; output = refl }
+incomplete-means =
+    record { ongoing = refl; value = refl; accepted = refl; rejected = refl; output = λ tag l. rw (le-leb 3 tag (omega arith)) }
 
-module _ (set : ℕ) (is : ProposalState → Bool) (means : Means set is) where
-  tag-means : (tag v : ℕ) → tagIn set tag ≡ is (proposalOf tag v)
-  unfolding tagIn proposalOf
-  tag-means zero v = means .ongoing
-  tag-means (suc zero) v = means .value v
-  tag-means (suc (suc zero)) v = means .accepted
-  tag-means (suc (suc (suc zero))) v = means .rejected
-  tag-means (suc (suc (suc (suc t)))) v =
-      let tag = suc (suc (suc (suc t))) in
-      let e : min tag 4 ≡ 4 = omega arith in
-      rw (e, ne-eqb tag 0 (λ e. omega arith), ne-eqb tag 1 (λ e. omega arith), ne-eqb tag 2 (λ e. omega arith), ne-eqb tag 3 (λ e. omega arith)) (means .output)
+-- those whose agreement is asked, and which get vote 0
+pub undecided-means : (v : ℕ) → Means undecidedTags (λ tag. asksAgreement (proposalOf tag v))
+unfolding hasBit asksAgreement proposalOf
+undecided-means v =
+    record {
+      ongoing = refl;
+      value = refl;
+      accepted = refl;
+      rejected = refl;
+      output = λ tag l. rw (ne-eqb tag 0 (λ e. omega arith), ne-eqb tag 1 (λ e. omega arith), ne-eqb tag 2 (λ e. omega arith), ne-eqb tag 3 (λ e. omega arith));
+    }
 
-  module _ (n : ℕ) (w : List ℕ) where
-    at-means : (p : ℕ) → tagIn set (getD w (fieldAt (recordLength n) p proposalField) 0) ≡ is (loadProposal n w p)
-    unfolding loadProposal
-    at-means p = tag-means (getD w (proposalAt n p) 0) (getD w (valueAt n p) 0)
+module _ (set : ℕ) (is : ℕ → Bool) (means : Means set is) where
+  pub tag-means : (tag : ℕ) → tagIn set tag ≡ is tag
+  unfolding tagIn
+  tag-means zero = means .ongoing
+  tag-means (suc zero) = means .value
+  tag-means (suc (suc zero)) = means .accepted
+  tag-means (suc (suc (suc zero))) = means .rejected
+  tag-means (suc (suc (suc (suc t)))) =
+      let e : min (suc (suc (suc (suc t)))) 4 ≡ 4 = omega arith in
+      rw e (means .output (suc (suc (suc (suc t)))) (omega arith))
 
-    counted : (m i : ℕ) → countIf (λ p. tagIn set (getD w (fieldAt (recordLength n) p proposalField) 0)) m i ≡ countFrom n is m i w
+  module _ (size n : ℕ) (w : List ℕ) where
+    counted : (m p : ℕ) → countIf (λ p. tagIn set (proposalIn size w p)) m p ≡ countFrom size is m p w
     unfolding countIf countFrom
-    counted zero i = refl
-    counted (suc m) i = rw (at-means i, counted m (i + 1))
+    counted zero p = refl
+    counted (suc m) p = rw (tag-means (proposalIn size w p), counted m (p + 1))
 
     -- the word has the bits of these proposals and no others,
-    pub proposals-has : (p : ℕ) → p < n → hasBit (proposalsIn (recordLength n) set n w) p ≡ is (loadProposal n w p)
+    pub proposals-has : (p : ℕ) → p < n → hasBit (proposalsIn size set n w) p ≡ is (proposalIn size w p)
     unfolding proposalsIn
-    proposals-has p l = bits-has _ n p l ∙ at-means p
+    proposals-has p l = bits-has _ n p l ∙ tag-means (proposalIn size w p)
 
-    pub proposals-below : proposalsIn (recordLength n) set n w < 2 ^ n
+    pub proposals-below : proposalsIn size set n w < 2 ^ n
     unfolding proposalsIn
     proposals-below = bits-below _ n
 
     -- and its ones are as many as they are
-    pub proposals-ones : ones (proposalsIn (recordLength n) set n w) ≡ countFrom n is n 0 w
+    pub proposals-ones : ones (proposalsIn size set n w) ≡ countFrom size is n 0 w
     unfolding proposalsIn
     proposals-ones = bits-ones _ n ∙ counted n 0
 
 module _ (n : ℕ) (w : List ℕ) where
   -- "The number of accepted proposers"
   pub accepted-ones : ones (proposalsIn (recordLength n) acceptedTags n w) ≡ countAccepted n w
-  accepted-ones = proposals-ones acceptedTags accepted accepted-means n w
+  accepted-ones = proposals-ones acceptedTags accepted accepted-means (recordLength n) n w
 
   pub received-ones : ones (proposalsIn (recordLength n) receivedTags n w) ≡ receivedProposals n w
-  received-ones = proposals-ones receivedTags received received-means n w
+  received-ones = proposals-ones receivedTags received received-means (recordLength n) n w
+
+  -- proposer p is asked about in a round of votes
+  pub undecided-has : (p : ℕ) → p < n → hasBit (proposalsIn (recordLength n) undecidedTags n w) p ≡ asksAgreement (loadProposal n w p)
+  unfolding loadProposal
+  undecided-has p l = proposals-has undecidedTags _ (undecided-means (getD w (valueAt n p) 0)) (recordLength n) n w p l
 
   -- all are complete where the incomplete ones are none
-  pub incomplete-none : eqb (proposalsIn (recordLength n) incompleteTags n w) 0 ≡ completeFrom n n 0 w
+  pub incomplete-none : eqb (proposalsIn (recordLength n) incompleteTags n w) 0 ≡ allComplete n w
   unfolding proposalsIn bitsFrom completeFrom
   incomplete-none = go n 0
     where
@@ -222,11 +230,11 @@ module _ (n : ℕ) (w : List ℕ) where
       not-not false = refl
 
       tags : ℕ → Bool
-      tags p = tagIn incompleteTags (getD w (fieldAt (recordLength n) p proposalField) 0)
+      tags p = tagIn incompleteTags (proposalIn (recordLength n) w p)
 
-      over : (p : ℕ) → not (tags p) ≡ complete (loadProposal n w p)
-      over p = ap not (at-means incompleteTags _ incomplete-means n w p) ∙ not-not _
+      over : (p : ℕ) → not (tags p) ≡ complete (proposalIn (recordLength n) w p)
+      over p = ap not (tag-means incompleteTags _ incomplete-means (proposalIn (recordLength n) w p)) ∙ not-not _
 
-      go : (m i : ℕ) → eqb (bitsFrom tags m i) 0 ≡ completeFrom n m i w
-      go zero i = refl
-      go (suc m) i = bit-none (tags i) i (bitsFrom tags m (i + 1)) ∙ ap₂ (λ (x y : Bool). x && y) (over i) (go m (i + 1))
+      go : (m p : ℕ) → eqb (bitsFrom tags m p) 0 ≡ completeFrom (recordLength n) m p w
+      go zero p = refl
+      go (suc m) p = bit-none (tags p) p (bitsFrom tags m (p + 1)) ∙ ap₂ (λ (x y : Bool). x && y) (over p) (go m (p + 1))

@@ -1,9 +1,9 @@
 -- How many entries the subset writes: at most one for each record that it reads. Assumes nothing.
 use Prim.Native.Nat.{ℕ, zero, suc, _+_}
 use mathlib.Core.List.{List}
+use mathlib.Core.Bool.{_||_}
 use mathlib.Core.Option.{Option}
 use native.Mathlib.Omega.{arith}
-use lib.ListN.{getD}
 use lib.Dec.{eqb, ltb}
 use Rattle.steps.specs.declared.network_info.NetworkInfo.{NetworkInfo}
 use Rattle.steps.specs.declared.reader.Output.{Output}
@@ -13,9 +13,9 @@ use Rattle.steps.specs.Answers.{Tape}
 use Rattle.steps.specs.Runs.{Run}
 use Rattle.steps.proofs.Bounded.{Bounded, bounded-ends, bounded-wider, bounded-cond, bounded-about, bounded-onward, bounded-inside, bounded-parts}
 use Rattle.subset.specs.declared.ProposalState.{ProposalState}
-use Rattle.subset.specs.Words.{decidedAt, loadProposal, storeProposal}
+use Rattle.subset.specs.Words.{isDecided, loadProposal, storeProposal}
 use Rattle.subset.specs.Proposal.{asksAgreement, asksBroadcast, afterBroadcast, instanceAnswer, handleAgreement, voteTrue, afterValue, handleBroadcast}
-use Rattle.subset.specs.Subset.{completeFrom, countAccepted, atProposal, broadcastAt, agreementAt, voteFrom, votes, tryOutput, propose, handleMessage}
+use Rattle.subset.specs.Subset.{allComplete, countAccepted, atProposal, broadcastAt, agreementAt, voteFrom, votes, tryOutput, propose, handleMessage}
 
 -- A PROPOSAL
 module _ (error proposer : ℕ) where
@@ -27,8 +27,7 @@ module _ (error proposer : ℕ) where
 
   agreement-writes : (kind : ℕ) (s : ProposalState) (p : Tape) → Bounded 0 p (handleAgreement error proposer kind s p)
   unfolding handleAgreement
-  agreement-writes kind s p =
-      bounded-cond (asksAgreement s) 0 p _ _ (bounded-onward 0 p _ _ (answer-writes kind 2 s p) (λ out s q. bounded-ends)) bounded-ends
+  agreement-writes kind s p = bounded-onward 0 p _ _ (answer-writes kind 2 s p) (λ out s q. bounded-ends)
 
   value-writes : (s : ProposalState) (out : Output) (p : Tape) → Bounded 0 p (afterValue error proposer s out p)
   unfolding afterValue voteTrue
@@ -37,8 +36,7 @@ module _ (error proposer : ℕ) where
 
   broadcast-writes : (kind : ℕ) (s : ProposalState) (p : Tape) → Bounded 0 p (handleBroadcast error proposer kind s p)
   unfolding handleBroadcast
-  broadcast-writes kind s p =
-      bounded-cond (asksBroadcast s) 0 p _ _ (bounded-onward 0 p _ _ (answer-writes kind 1 s p) (λ out s q. value-writes s out q)) bounded-ends
+  broadcast-writes kind s p = bounded-onward 0 p _ _ (answer-writes kind 1 s p) (λ out s q. value-writes s out q)
 
 -- an operation on an epoch's words that writes at most one entry for each record it reads, and `more` besides
 abbrev pub Writes : {A : Type 0} → ℕ → (List ℕ → Tape → Run (List ℕ) A) → Type 0
@@ -72,11 +70,8 @@ module _ (net : NetworkInfo) (error : ℕ) where
   try-writes : Writes 0 (tryOutput net error)
   unfolding tryOutput
   try-writes w p =
-      bounded-cond (eqb (getD w decidedAt 0) 0) 0 p _ _
-      (bounded-cond (ltb (countAccepted (net .«num_nodes») w) (numCorrect net)) 0 p _ _ bounded-ends
-      (bounded-onward 0 p _ _ (votes-writes w p) (λ _ w q.
-      bounded-cond (completeFrom (net .«num_nodes») (net .«num_nodes») 0 w) 0 q _ _ bounded-ends bounded-ends)))
-      bounded-ends
+      bounded-cond (isDecided w || ltb (countAccepted (net .«num_nodes») w) (numCorrect net)) 0 p _ _ bounded-ends
+      (bounded-onward 0 p _ _ (votes-writes w p) (λ _ w q. bounded-cond (allComplete (net .«num_nodes») w) 0 q _ _ bounded-ends bounded-ends))
 
   pub propose-writes : Writes 0 (propose net error)
   unfolding propose
