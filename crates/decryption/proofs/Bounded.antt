@@ -7,7 +7,6 @@ use lib.Dec.{leb, eqb}
 use Rattle.steps.specs.declared.network_info.NetworkInfo.{NetworkInfo}
 use Rattle.steps.specs.Network.{isValidator}
 use Rattle.steps.specs.Answers.{Tape}
-use Rattle.steps.specs.Steps.{message, fault}
 use Rattle.steps.specs.Runs.{Run}
 use Rattle.steps.proofs.Bounded.{Bounded, bounded-ends, bounded-wider, bounded-one, bounded-cond, bounded-ask, bounded-about, bounded-onward}
 use Rattle.decryption.specs.Decrypt.{withShares, withInput, withEnd, countShares, setCiphertext, checkShare, removeFrom, ownShare, startWith, combine, tryWith, startDecryption, tryOutput, storeShare, handleMessage}
@@ -29,7 +28,7 @@ check-writes : (i : ℕ) → Writes 0 (checkShare i)
 unfolding checkShare
 check-writes i td p =
     bounded-cond (eqb (getD (td .shares) i 0) 0) 0 p _ _ bounded-ends
-    (bounded-about 0 p 10 i td _ (λ a b q. bounded-cond (eqb a 0) 1 q _ _ (bounded-one (fault 7 i 0) 0 q _ bounded-ends) bounded-ends))
+    (bounded-about 0 p 10 i td _ (λ a b q. bounded-cond (eqb a 0) 1 q _ _ (bounded-one _ 0 q _ bounded-ends) bounded-ends))
 
 remove-writes : (n i : ℕ) → Writes 0 (removeFrom n i)
 unfolding removeFrom
@@ -41,7 +40,7 @@ module _ (net : NetworkInfo) (proposer : ℕ) where
   unfolding ownShare
   own-writes k h td p =
       bounded-cond (isValidator net && net .«has_key») 0 p _ _
-      (bounded-ask 0 p 11 td _ (λ a b q. bounded-one (message 3 proposer b) 0 q _ (h (withShares td (set (td .shares) (net .«our_id») b)) q)))
+      (bounded-ask 0 p 11 td _ (λ a b q. bounded-one _ 0 q _ (h (withShares td (set (td .shares) (net .«our_id») b)) q)))
       (h td p)
 
   with-start : (k : Does) → Writes 0 k → Writes 0 (startWith net proposer k)
@@ -77,7 +76,7 @@ module _ (net : NetworkInfo) (proposer : ℕ) where
   store-writes sender share td p =
       bounded-cond (eqb (getD (td .shares) sender 0) 0) 1 p _ _
       (bounded-wider 0 1 p _ (omega arith) (try-writes _ p))
-      (bounded-one (fault 6 sender 0) 0 p _ bounded-ends)
+      (bounded-one _ 0 p _ bounded-ends)
 
   pub handle-writes : (sender share : ℕ) → Writes 1 (handleMessage net proposer sender share)
   unfolding handleMessage
@@ -86,5 +85,5 @@ module _ (net : NetworkInfo) (proposer : ℕ) where
       (bounded-cond (eqb (td .ciphertext) 0) 1 p _ _ (store-writes sender share td p)
       (bounded-about 1 p 10 sender td _ (λ a b q.
       bounded-cond (eqb a 0) 2 q _ _
-      (bounded-one (fault 7 sender 0) 1 q _ bounded-ends)
+      (bounded-one _ 1 q _ bounded-ends)
       (bounded-wider 1 2 q _ (omega arith) (store-writes sender share td q)))))

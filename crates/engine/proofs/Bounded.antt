@@ -14,7 +14,7 @@ use Rattle.steps.specs.declared.reader.Answer.the-variants.{Got, Refused}
 use Rattle.steps.specs.Network.{isValidator}
 use Rattle.steps.specs.Table.{tableOk}
 use Rattle.steps.specs.Answers.{Tape, tapeOf, ask}
-use Rattle.steps.specs.Steps.{Entry, fault, out, putAll, counting, starting, records as recordsOf, putHeader, written}
+use Rattle.steps.specs.Steps.{Entry, out, putAll, counting, starting, records as recordsOf, putHeader, written}
 use Rattle.steps.specs.Runs.{going, failed, Run, ends, onward, heardAs, heard}
 use Rattle.steps.proofs.Laws.{and-true}
 use Rattle.steps.proofs.Bounded.{Bounded, chainLimit, table-bounded, bounded-ends, bounded-wider, bounded-one, bounded-cond, bounded-ask, bounded-then, bounded-inside}
@@ -148,7 +148,7 @@ propose-bounded w p h =
 pub message-bounded : (sender epoch proposer : ℕ) (content : MessageContent) (w : List ℕ) (p : Tape) → Sized w → Bounded callLimit p (handleMessage sender epoch proposer content w p)
 unfolding handleMessage netOf
 message-bounded sender epoch proposer content w p h =
-    bounded-cond (ltb (currentEpoch w + ahead w) epoch) callLimit p _ _ (bounded-wider 1 callLimit p _ (omega arith) (bounded-one (fault 1 sender 0) 0 p _ bounded-ends))
+    bounded-cond (ltb (currentEpoch w + ahead w) epoch) callLimit p _ _ (bounded-wider 1 callLimit p _ (omega arith) (bounded-one _ 0 p _ bounded-ends))
     (bounded-cond (ltb epoch (currentEpoch w)) callLimit p _ _ bounded-ends
     (bounded-then 0 callLimit p _ _ (mut-writes epoch w p) (λ _ _. called-writes epoch _ _ _ (mut-sized epoch w p h) (content-writes _ _ _ sender proposer content))))
 

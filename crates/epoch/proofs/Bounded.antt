@@ -26,23 +26,22 @@ use Rattle.epoch.specs.Epoch.{firstContributions, unexpectedFrom, unexpe
 use Rattle.epoch.specs.Batch.{isRead, readAt, readFrom, entriesFrom, outputBatchIn, outputBatch}
 
 -- a list with one entry or none before it
-one-more : (x : Bool) (e : Entry) (l : List Entry) → length (cond x (e ∷ []) [] ++ l) ≤ suc (length l)
-one-more true e l = omega arith
-one-more false e l = omega arith
+one-more : (x : Bool) (e : Entry) (l : List Entry) (m : ℕ) → length l ≤ m → length (cond x (e ∷ []) [] ++ l) ≤ suc m
+one-more true e l m h = omega arith
+one-more false e l m h = omega arith
 
 -- THE BATCH
 module _ (size : ℕ) where
   entries-few : (m p readable : ℕ) (w : List ℕ) → length (entriesFrom size m p readable w) ≤ m
   unfolding entriesFrom
   entries-few zero p readable w = omega arith
-  entries-few (suc m) p readable w =
-      omega (arith, entries-few m (p + 1) readable w, one-more (hasBit readable p) (output 2 p (plaintextIn size w p)) (entriesFrom size m (p + 1) readable w))
+  entries-few (suc m) p readable w = one-more (hasBit readable p) (output 2 p (plaintextIn size w p)) _ m (entries-few m (p + 1) readable w)
 
   read-at-writes : (p readable : ℕ) → Writes 0 (readAt size p readable)
   unfolding readAt
   read-at-writes p readable w tape =
       bounded-cond (isRead size w p) 0 tape _ _
-      (bounded-about 0 tape 13 p w _ (λ a b q. bounded-cond (eqb a 0) 1 q _ _ (bounded-one (fault 5 p 0) 0 q _ bounded-ends) bounded-ends))
+      (bounded-about 0 tape 13 p w _ (λ a b q. bounded-cond (eqb a 0) 1 q _ _ (bounded-one _ 0 q _ bounded-ends) bounded-ends))
       bounded-ends
 
   read-writes : (m p readable : ℕ) → Writes 0 (readFrom size m p readable)
@@ -63,7 +62,7 @@ batch-writes n epoch w p = batch-in-writes (recordLength n) n epoch w p
 unexpected-few : (m i : ℕ) (td : ThresholdDecrypt) → length (unexpectedFrom m i td) ≤ m
 unfolding unexpectedFrom
 unexpected-few zero i td = omega arith
-unexpected-few (suc m) i td = omega (arith, unexpected-few m (i + 1) td, one-more (isSender td i) (fault 2 i 0) (unexpectedFrom m (i + 1) td))
+unexpected-few (suc m) i td = one-more (isSender td i) (fault 2 i 0) _ m (unexpected-few m (i + 1) td)
 
 shares-few : (n : ℕ) (d : DecryptionState) → length (unexpectedShares n d) ≤ n
 unfolding unexpectedShares
@@ -106,19 +105,19 @@ module _ (net : NetworkInfo) where
   unfolding inputCiphertext
   input-writes p value td tape =
       bounded-onward 1 tape _ _ (set-writes 0 p value td tape) (λ verified td q.
-      bounded-cond verified 1 q _ _ (bounded-wider 0 1 q _ (omega arith) (start-writes net p td q)) (bounded-one (fault 4 p 0) 0 q _ bounded-ends))
+      bounded-cond verified 1 q _ _ (bounded-wider 0 1 q _ (omega arith) (start-writes net p td q)) (bounded-one _ 0 q _ bounded-ends))
 
   send-writes : (p value : ℕ) → Writes 0 (sendDecryptionShare net p value)
   unfolding sendDecryptionShare
   send-writes p value w tape =
       bounded-about 0 tape 8 p w _ (λ a b q.
-      bounded-cond (eqb a 0) 1 q _ _ (bounded-one (fault 3 p 0) 0 q _ bounded-ends) (entry-writes 1 p _ (input-writes p value) w q))
+      bounded-cond (eqb a 0) 1 q _ _ (bounded-one _ 0 q _ bounded-ends) (entry-writes 1 p _ (input-writes p value) w q))
 
   share-message-writes : (sender p share : ℕ) → Writes 1 (handleDecryptionShare net sender p share)
   unfolding handleDecryptionShare
   share-message-writes sender p share w tape =
       bounded-cond (isComplete w && not (isAccepted w p)) 1 tape _ _
-      (bounded-one (fault 2 sender 0) 0 tape _ bounded-ends)
+      (bounded-one _ 0 tape _ bounded-ends)
       (entry-writes 1 p _ (share-writes net p sender share) w tape)
 
   module _ (strategy : SubsetHandlingStrategy) (encrypted : Bool) where

@@ -9,7 +9,7 @@ use Rattle.steps.specs.declared.network_info.NetworkInfo.{NetworkInfo}
 use Rattle.steps.specs.Answers.{Tape}
 use Rattle.steps.specs.Steps.{Entry, fault}
 use Rattle.steps.specs.Runs.{going, Run, ends, onward}
-use Rattle.subset.specs.Words.{recordLength, acceptedAt, valueAt, arrivalAt}
+use Rattle.subset.specs.Words.{recordLength, acceptedOf, valueAt, contributor}
 use Rattle.subset.specs.Bits.{receivedTags, proposalsIn}
 use Rattle.epoch.specs.declared.SubsetHandlingStrategy.{SubsetHandlingStrategy}
 use Rattle.epoch.specs.Words.{isVacant, isComplete, isAccepted, entryOngoing, decryptionAt, shareAt}
@@ -19,7 +19,7 @@ use Rattle.epoch.specs.Epoch.{handleContribution}
 unfoldable pub receivedBits : ℕ → List ℕ → ℕ
 receivedBits n w =
     cond (isVacant w) 0
-    (cond (isComplete w) (getD w acceptedAt 0) (proposalsIn (recordLength n) receivedTags n w))
+    (cond (isComplete w) (acceptedOf w) (proposalsIn (recordLength n) receivedTags n w))
 
 -- "At Done, shares for non-accepted proposers become fault 2, by proposer then sender." A share of this sender is stored for p, who is not
 -- accepted
@@ -45,7 +45,7 @@ pub record Contribution : Type 0 where
 unfoldable pub arrivals : ℕ → ℕ → ℕ → List ℕ → List Contribution
 arrivals n zero i w = []
 arrivals n (suc m) i w =
-    record { proposer = getD w (arrivalAt n i) 0; value = getD w (valueAt n (getD w (arrivalAt n i) 0)) 0 } ∷ arrivals n m (i + 1) w
+    record { proposer = contributor n w i; value = getD w (valueAt n (contributor n w i)) 0 } ∷ arrivals n m (i + 1) w
 
 -- each is handled, in the order of the list
 module _ (net : NetworkInfo) (strategy : SubsetHandlingStrategy) (encrypted : Bool) where

@@ -6,7 +6,6 @@ use mathlib.Core.List.{List}
 use mathlib.Core.Bool.{Bool, true, false, cond, _&&_, not}
 use native.Mathlib.Omega.{arith}
 use native.Mathlib.Nat.{two-pow-succ, eq-or-lt-of-le, div-one}
-use lib.ListN.{getD}
 use lib.Dec.{eqb}
 use lib.Pow.{pow-pos, high, shr-shr, shr-lt}
 use lib.Count.{ones, ones-step, ones-cat}
@@ -14,9 +13,9 @@ use borrow.Author.Tests.{eq-eqb, ne-eqb}
 use Rattle.steps.specs.Bits.{hasBit, countBits, bitsFrom}
 use Rattle.subset.specs.declared.ProposalState.{ProposalState}
 use Rattle.subset.specs.declared.ProposalState.the-variants.{Ongoing, HasValue, Accepted, Complete}
-use Rattle.subset.specs.Words.{recordLength, fieldAt, proposalField, proposalAt, valueAt, proposalOf, loadProposal}
+use Rattle.subset.specs.Words.{recordLength, tagOngoing, tagHasValue, tagAccepted, tagCompleteFalse, tagCompleteTrue, proposalOf, proposalTag, proposalIn, loadProposal}
 use Rattle.subset.specs.Proposal.{received, accepted, complete, asksAgreement}
-use Rattle.subset.specs.Subset.{countFrom, completeFrom, receivedProposals, countAccepted}
+use Rattle.subset.specs.Subset.{countFrom, completeFrom, receivedProposals, countAccepted, allComplete}
 use Rattle.subset.specs.Bits.{tagIn, acceptedTags, receivedTags, undecidedTags, incompleteTags, proposalsIn}
 use Rattle.subset.proofs.Counts.{countIf}
 
@@ -145,11 +144,11 @@ bit-none false i k = let e : 0 + k ≡ k = omega arith in ap (λ (j : ℕ). eqb 
 
 -- A SET OF TAGS means those states of a proposal that are so
 pub record Means (set : ℕ) (is : ProposalState → Bool) : Type 0 where
-  pub ongoing : hasBit set 0 ≡ is Ongoing
-  pub value : (v : ℕ) → hasBit set 1 ≡ is (HasValue v)
-  pub accepted : hasBit set 2 ≡ is Accepted
-  pub rejected : hasBit set 3 ≡ is (Complete false)
-  pub output : hasBit set 4 ≡ is (Complete true)
+  pub ongoing : hasBit set tagOngoing ≡ is Ongoing
+  pub value : (v : ℕ) → hasBit set tagHasValue ≡ is (HasValue v)
+  pub accepted : hasBit set tagAccepted ≡ is Accepted
+  pub rejected : hasBit set tagCompleteFalse ≡ is (Complete false)
+  pub output : hasBit set tagCompleteTrue ≡ is (Complete true)
 
 pub accepted-means : Means acceptedTags accepted
 unfolding hasBit accepted
@@ -159,7 +158,7 @@ pub received-means : Means receivedTags received
 unfolding hasBit received
 received-means = record { ongoing = refl; value = λ v. refl; accepted = refl; rejected = refl; output = refl }
 
--- those that an agreement is asked about, and so votes 0 too
+-- those whose agreement is asked, and which get vote 0
 pub undecided-means : Means undecidedTags asksAgreement
 unfolding hasBit asksAgreement
 undecided-means = record { ongoing = refl; value = λ v. refl; accepted = refl; rejected = refl; output = refl }
@@ -180,41 +179,45 @@ module _ (set : ℕ) (is : ProposalState → Bool) (means : Means set is) where
       let e : min tag 4 ≡ 4 = omega arith in
       rw (e, ne-eqb tag 0 (λ e. omega arith), ne-eqb tag 1 (λ e. omega arith), ne-eqb tag 2 (λ e. omega arith), ne-eqb tag 3 (λ e. omega arith)) (means .output)
 
-  module _ (n : ℕ) (w : List ℕ) where
-    at-means : (p : ℕ) → tagIn set (getD w (fieldAt (recordLength n) p proposalField) 0) ≡ is (loadProposal n w p)
-    unfolding loadProposal
-    at-means p = tag-means (getD w (proposalAt n p) 0) (getD w (valueAt n p) 0)
+  module _ (size n : ℕ) (w : List ℕ) where
+    at-means : (p : ℕ) → tagIn set (proposalTag size w p) ≡ is (proposalIn size w p)
+    at-means p = tag-means (proposalTag size w p) _
 
-    counted : (m i : ℕ) → countIf (λ p. tagIn set (getD w (fieldAt (recordLength n) p proposalField) 0)) m i ≡ countFrom (recordLength n) is m i w
-    unfolding countIf countFrom loadProposal
-    counted zero i = refl
-    counted (suc m) i = rw (at-means i, counted m (i + 1))
+    counted : (m p : ℕ) → countIf (λ p. tagIn set (proposalTag size w p)) m p ≡ countFrom size is m p w
+    unfolding countIf countFrom
+    counted zero p = refl
+    counted (suc m) p = rw (at-means p, counted m (p + 1))
 
     -- the word has the bits of these proposals and no others,
-    pub proposals-has : (p : ℕ) → p < n → hasBit (proposalsIn (recordLength n) set n w) p ≡ is (loadProposal n w p)
+    pub proposals-has : (p : ℕ) → p < n → hasBit (proposalsIn size set n w) p ≡ is (proposalIn size w p)
     unfolding proposalsIn
     proposals-has p l = bits-has _ n p l ∙ at-means p
 
-    pub proposals-below : proposalsIn (recordLength n) set n w < 2 ^ n
+    pub proposals-below : proposalsIn size set n w < 2 ^ n
     unfolding proposalsIn
     proposals-below = bits-below _ n
 
     -- and its ones are as many as they are
-    pub proposals-ones : ones (proposalsIn (recordLength n) set n w) ≡ countFrom (recordLength n) is n 0 w
+    pub proposals-ones : ones (proposalsIn size set n w) ≡ countFrom size is n 0 w
     unfolding proposalsIn
     proposals-ones = bits-ones _ n ∙ counted n 0
 
 module _ (n : ℕ) (w : List ℕ) where
   -- "The number of accepted proposers"
   pub accepted-ones : ones (proposalsIn (recordLength n) acceptedTags n w) ≡ countAccepted n w
-  accepted-ones = proposals-ones acceptedTags accepted accepted-means n w
+  accepted-ones = proposals-ones acceptedTags accepted accepted-means (recordLength n) n w
 
   pub received-ones : ones (proposalsIn (recordLength n) receivedTags n w) ≡ receivedProposals n w
-  received-ones = proposals-ones receivedTags received received-means n w
+  received-ones = proposals-ones receivedTags received received-means (recordLength n) n w
+
+  -- proposer p is asked about in a round of votes
+  pub undecided-has : (p : ℕ) → p < n → hasBit (proposalsIn (recordLength n) undecidedTags n w) p ≡ asksAgreement (loadProposal n w p)
+  unfolding loadProposal
+  undecided-has p l = proposals-has undecidedTags asksAgreement undecided-means (recordLength n) n w p l
 
   -- all are complete where the incomplete ones are none
-  pub incomplete-none : eqb (proposalsIn (recordLength n) incompleteTags n w) 0 ≡ completeFrom (recordLength n) n 0 w
-  unfolding proposalsIn bitsFrom completeFrom loadProposal
+  pub incomplete-none : eqb (proposalsIn (recordLength n) incompleteTags n w) 0 ≡ allComplete n w
+  unfolding proposalsIn bitsFrom completeFrom
   incomplete-none = go n 0
     where
       not-not : (x : Bool) → not (not x) ≡ x
@@ -222,10 +225,10 @@ module _ (n : ℕ) (w : List ℕ) where
       not-not false = refl
 
       tags : ℕ → Bool
-      tags p = tagIn incompleteTags (getD w (fieldAt (recordLength n) p proposalField) 0)
+      tags p = tagIn incompleteTags (proposalTag (recordLength n) w p)
 
-      over : (p : ℕ) → not (tags p) ≡ complete (loadProposal n w p)
-      over p = ap not (at-means incompleteTags _ incomplete-means n w p) ∙ not-not _
+      over : (p : ℕ) → not (tags p) ≡ complete (proposalIn (recordLength n) w p)
+      over p = ap not (at-means incompleteTags _ incomplete-means (recordLength n) n w p) ∙ not-not _
 
       go : (m i : ℕ) → eqb (bitsFrom tags m i) 0 ≡ completeFrom (recordLength n) m i w
       go zero i = refl

@@ -1,31 +1,30 @@
 -- The proposals whose tag is in a given set, as a word of bits, which the language's count of ones counts.
-use Prim.Native.Nat.{ℕ, min}
+use Prim.Native.Nat.{ℕ, _+_, _^_, min}
 use mathlib.Core.List.{List}
 use mathlib.Core.Bool.{Bool}
-use lib.ListN.{getD}
 use Rattle.steps.specs.Bits.{hasBit, bitsFrom}
-use Rattle.subset.specs.Words.{fieldAt, proposalField}
+use Rattle.subset.specs.Words.{proposalTag, tagOngoing, tagHasValue, tagAccepted, tagCompleteTrue}
 
--- a set of tags is a word of bits too: 0 Ongoing, 1 HasValue, 2 Accepted, 3 Complete with 0, 4 (and what is above it) Complete with 1
+-- a set of tags is a word of bits too. A tag above the last reads as the last
 unfoldable pub tagIn : ℕ → ℕ → Bool
-tagIn set tag = hasBit set (min tag 4)
+tagIn set tag = hasBit set (min tag tagCompleteTrue)
 
--- Accepted, or Complete with 1
+-- the agreement has decided 1
 abbrev pub acceptedTags : ℕ
-acceptedTags = 20
+acceptedTags = 2 ^ tagAccepted + 2 ^ tagCompleteTrue
 
--- HasValue, or Complete with 1
+-- the value is here, or was output
 abbrev pub receivedTags : ℕ
-receivedTags = 18
+receivedTags = 2 ^ tagHasValue + 2 ^ tagCompleteTrue
 
--- Ongoing, or HasValue
+-- the agreement has not decided
 abbrev pub undecidedTags : ℕ
-undecidedTags = 3
+undecidedTags = 2 ^ tagOngoing + 2 ^ tagHasValue
 
--- Ongoing, HasValue, or Accepted
+-- neither rejected nor output
 abbrev pub incompleteTags : ℕ
-incompleteTags = 7
+incompleteTags = 2 ^ tagOngoing + 2 ^ tagHasValue + 2 ^ tagAccepted
 
 -- of n proposals, in records of `size` words, those whose tag is in the set
 unfoldable pub proposalsIn : ℕ → ℕ → ℕ → List ℕ → ℕ
-proposalsIn size set n w = bitsFrom (λ p. tagIn set (getD w (fieldAt size p proposalField) 0)) n 0
+proposalsIn size set n w = bitsFrom (λ p. tagIn set (proposalTag size w p)) n 0

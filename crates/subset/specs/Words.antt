@@ -122,9 +122,12 @@ valueOf (HasValue v) = v
 valueOf Accepted = 0
 valueOf (Complete b) = 0
 
--- the proposal of p, where a record has `size` words
+-- the tag of p's proposal, and the proposal, where a record has `size` words
+abbrev pub proposalTag : ℕ → List ℕ → ℕ → ℕ
+proposalTag size w p = getD w (fieldAt size p proposalField) 0
+
 abbrev pub proposalIn : ℕ → List ℕ → ℕ → ProposalState
-proposalIn size w p = proposalOf (getD w (fieldAt size p proposalField) 0) (getD w (fieldAt size p valueField) 0)
+proposalIn size w p = proposalOf (proposalTag size w p) (getD w (fieldAt size p valueField) 0)
 
 unfoldable pub loadProposal : ℕ → List ℕ → ℕ → ProposalState
 loadProposal n w p = proposalIn (recordLength n) w p
