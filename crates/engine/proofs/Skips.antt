@@ -6,7 +6,7 @@ use mathlib.Core.Path.{_≡_, refl, sym, ap, _∙_}
 use mathlib.Core.Logic.{_≢_}
 use mathlib.Core.List.{List}
 use mathlib.Core.Bool.{Bool, true, false, cond}
-use lib.Dec.{eqb, ltb}
+use lib.Dec.{eqb, leb, ltb}
 use lib.ListN.{getD, set, replicate, length-set}
 use lib.Seq.{getD-set-same, getD-set-other}
 use borrow.Author.Tests.{eqb-true, eqb-false, le-leb, lt-leb, ltb-true, lt-ltb}
@@ -92,6 +92,20 @@ pub skip-stays : (target : ℕ) (w : List ℕ) → target ≤ currentEpoch w →
 unfolding skipToEpoch
 skip-stays target w h = rw (le-leb target (currentEpoch w) h)
 
+-- of the header it writes current epoch and has input alone
+pub skip-head : (n f target : ℕ) (w : List ℕ) → Shaped n f w → (i : ℕ) → i < headerLength → i ≢ epochAt → i ≢ inputAt → getD (skipToEpoch target w) i 0 ≡ getD w i 0
+unfolding skipToEpoch
+skip-head n f target w h i l a b = go (leb target (currentEpoch w))
+  where
+    cleared : List ℕ
+    cleared = clearBelow target (ahead w + 1) (currentEpoch w) w
+
+    go : (t : Bool) → getD (cond t w (set (set cleared epochAt target) inputAt 0)) i 0 ≡ getD w i 0
+    go true = refl
+    go false =
+        getD-set-other (set cleared epochAt target) inputAt i 0 0 b
+        ∙ (getD-set-other cleared epochAt i target 0 a ∙ clear-head n f target (ahead w + 1) (currentEpoch w) w h i l)
+
 module _ (target : ℕ) (w : List ℕ) (ok : stateOk w ≡ true) (up : currentEpoch w < target) where
   abbrev n : ℕ
   n = nodes w
@@ -151,9 +165,7 @@ module _ (target : ℕ) (w : List ℕ) (ok : stateOk w ≡ true) (up : currentEp
             getD-set-other moved inputAt epochAt 0 0 (omega arith)
             ∙ getD-set-same cleared epochAt target 0 (omega (arith, cleared-shaped .long, header-first n));
         input = getD-set-same moved inputAt 0 0 (omega (arith, moved-shaped .long, header-first n));
-        header = λ i h a b.
-            getD-set-other moved inputAt i 0 0 b ∙ getD-set-other cleared epochAt i target 0 a
-            ∙ clear-head n f target (f + 1) (currentEpoch w) w (shaped w ok) i h;
+        header = λ i h a b. rw left-is at (skip-head n f target w (shaped w ok) i h a b);
         kept = λ e a b. left-words e ∙ clear-kept n f target e (f + 1) (currentEpoch w) w (shaped w ok) a (omega arith);
         cleared = λ e a b c. left-words e ∙ clear-gone n f target e (f + 1) (currentEpoch w) w (shaped w ok) e a (omega arith) b refl;
         vacant = λ e a b.

@@ -159,7 +159,7 @@ module _ (w : List ℕ) where
   unfoldable pub withoutEpoch : ℕ → List ℕ
   withoutEpoch epoch = withEpoch epoch (replicate (epochLength nodes) 0)
 
-  -- REPLY 3's RULE: each field in its range, whatever the state's past
+  -- REPLY 3's RULE: each field in its range, whatever the state's past. Test i is that of word i, the last that of all words behind
   unfoldable pub headerTests : List Bool
   headerTests =
       eqb profile 1
