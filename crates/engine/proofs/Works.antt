@@ -29,7 +29,7 @@ use Rattle.engine.specs.Work.{built, epochCall, batchesFrom, Worked, wor
 use Rattle.engine.proofs.Places.{same-place}
 use Rattle.engine.proofs.Window.{Shaped, with-own, net-same, strategy-same, encrypted-same, words-long, with-head, with-shaped, with-twice, with-same, with-other, set-shaped, set-words}
 use Rattle.engine.proofs.RangesState.{shaped}
-use Rattle.engine.proofs.Skips.{skip-stays, skip-head}
+use Rattle.engine.proofs.Skips.{skip-stays, skip-head, skipped}
 use Rattle.steps.proofs.RunLaws.{onward-assoc, onward-inside}
 use Rattle.engine.proofs.Looping.{batches-apart, batches-never-fail}
 
@@ -122,6 +122,15 @@ module _ (w v : List ℕ) (over : Over w v) (e : ℕ) (low : currentEpoch w ≤ 
         go false z =
             let ne : d ≡ e → ⊥ = eqb-false d e z in
             sym (with-other (nodes w) (ahead w) v (over .shape) e d x full (λ q. ne (sym (same-place (ahead w + 1) e d q (omega arith) (omega arith)))) ∙ over .words d)
+
+    -- an epoch whose batch went out is not there any more
+    pub commit-clears : (d : ℕ) → e < d → epochWords (committed v e (worked x d)) e ≡ replicate (epochLength (nodes w)) 0
+    unfolding committed
+    commit-clears d l =
+        let c = after-head epochAt (omega arith) in
+        let own : Shaped (nodes (withEpoch v e x)) (ahead (withEpoch v e x)) (withEpoch v e x) = rw (after-shaped .nodes, after-shaped .ahead) after-shaped in
+        skipped d (withEpoch v e x) own (omega arith) .cleared e (omega arith) l (omega (arith, after-shaped .ahead))
+        ∙ ap (λ (n : ℕ). replicate (epochLength n) 0) (after-shaped .nodes)
 
     -- no batch: these words alone are written
     pub none-next : committed v e (worked x (currentEpoch w)) ≡ withEpoch v e x
