@@ -6,7 +6,7 @@ use mathlib.Core.Logic.{_↔_}
 use mathlib.Core.List.{List}
 use mathlib.Core.Bool.{Bool, true, false, cond, not, _&&_}
 use lib.Dec.{eqb, leb}
-use lib.ListN.{length, getD, drop, replicate, length-append, length-replicate, List·getD-eq-default}
+use lib.ListN.{length, getD, drop, replicate, length-replicate, List·getD-eq-default}
 use lib.Seq.{getD-append-add, getD-take, getD-drop}
 use borrow.Author.Tests.{eqb-true, eq-eqb, leb-true, leb-false, le-leb, lt-leb}
 use Rattle.steps.specs.Table.{within}
@@ -25,7 +25,7 @@ use Rattle.engine.proofs.RangesState.{ok-by}
 
 pub length-created : (c : Numbers) → length (created c) ≡ stateLength (c .nodes) (c .ahead)
 unfolding created
-length-created c = simp (length-append, length-replicate) (omega (arith, header-first (c .nodes)))
+length-created c = simp length-replicate (omega (arith, header-first (c .nodes)))
 
 -- "16 + (F+1) × (16 + N × (8+N))"
 pub length-formula : (n ahead : ℕ) → stateLength n ahead ≡ 16 + (ahead + 1) * (16 + n * (8 + n))

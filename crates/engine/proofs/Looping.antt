@@ -7,6 +7,7 @@ use mathlib.Core.Bool.{Bool, true, false}
 use lib.Dec.{eqb}
 use Rattle.steps.specs.Answers.{Tape, askAbout}
 use Rattle.steps.specs.Runs.{Verdict, going, refused, failed, Run, ends, before, onwardAs, onward, inside}
+use Rattle.steps.proofs.RunLaws.{same-heard, same-cond, same-onward}
 use Rattle.epoch.specs.Words.{isAccepted}
 use Rattle.epoch.specs.Batch.{isReady, readAt, readFrom, outputBatch}
 use Rattle.engine.specs.State.{nodes, ahead, currentEpoch, epochWords, withEpoch, stateOk}
@@ -17,7 +18,6 @@ use Rattle.engine.proofs.Skips.{skip-stays}
 use Rattle.engine.proofs.Window.{Shaped, with-own, update-shaped, update-current, update-kept}
 use Rattle.engine.proofs.RangesState.{shaped}
 use Rattle.engine.proofs.Clearing.{skip-update}
-use Rattle.steps.proofs.RunLaws.{same-heard, same-cond, same-onward}
 
 -- a batch changes no word of its epoch
 same-read-at : (p readable : ℕ) (x : List ℕ) (t : Tape) → readAt p readable x t .state ≡ x

@@ -17,6 +17,7 @@ use Rattle.steps.specs.declared.network_info.NetworkInfo.{NetworkInfo}
 use Rattle.steps.specs.Network.{isValidator}
 use Rattle.steps.specs.Steps.{fault}
 use Rattle.steps.proofs.Runs.{onward-at}
+use Rattle.steps.proofs.RunLaws.{onward-assoc, onward-inside}
 use Rattle.subset.specs.Words.{epochLength}
 use Rattle.epoch.specs.Words.{isVacant}
 use Rattle.epoch.specs.declared.SubsetHandlingStrategy.{SubsetHandlingStrategy}
@@ -30,7 +31,6 @@ use Rattle.engine.proofs.Places.{same-place}
 use Rattle.engine.proofs.Window.{Shaped, with-own, net-same, strategy-same, encrypted-same, words-long, with-head, with-shaped, with-twice, with-same, with-other, set-shaped, set-words}
 use Rattle.engine.proofs.RangesState.{shaped}
 use Rattle.engine.proofs.Skips.{skip-stays, skip-head, skipped}
-use Rattle.steps.proofs.RunLaws.{onward-assoc, onward-inside}
 use Rattle.engine.proofs.Looping.{batches-apart, batches-never-fail}
 
 -- ONE EPOCH's instances are built in its own words
