@@ -6,7 +6,7 @@ use mathlib.Core.Logic.{_↔_}
 use mathlib.Core.List.{List}
 use mathlib.Core.Bool.{Bool, true, false, cond, not, _&&_}
 use lib.Dec.{eqb, leb}
-use lib.ListN.{length, getD, drop, replicate, length-append, length-replicate, List·getD-eq-default}
+use lib.ListN.{length, getD, drop, replicate, length-replicate, List·getD-eq-default}
 use lib.Seq.{getD-append-add, getD-take, getD-drop}
 use borrow.Author.Tests.{eqb-true, eq-eqb, leb-true, leb-false, le-leb, lt-leb}
 use Rattle.steps.specs.Table.{within}
@@ -16,7 +16,7 @@ use Rattle.subset.specs.Words.{epochLength}
 use Rattle.subset.proofs.Ranges.{limit-some}
 use Rattle.epoch.proofs.RangesWords.{all-every}
 use Rattle.engine.specs.Schedule.{scheduleOk, usedFirst, usedSecond}
-use Rattle.engine.specs.State.{headerLength, vacantAt, epochsAt, stateLength, lastEpoch, allHold, headerTests, headerInRange, epochWords, placeOf, stateOk}
+use Rattle.engine.specs.State.{headerLength, inputAt, vacantAt, epochsAt, stateLength, lastEpoch, allHold, headerTests, headerInRange, epochWords, placeOf, stateOk}
 use Rattle.engine.specs.Create.{Numbers, numberTests, numbersOk, createdHeader, created, createReply, createState}
 use Rattle.engine.specs.Rule.{CreateInRange}
 use Rattle.engine.proofs.Bools.{test-holds}
@@ -25,7 +25,7 @@ use Rattle.engine.proofs.RangesState.{ok-by}
 
 pub length-created : (c : Numbers) → length (created c) ≡ stateLength (c .nodes) (c .ahead)
 unfolding created
-length-created c = simp (length-append, length-replicate) (omega (arith, header-first (c .nodes)))
+length-created c = simp length-replicate (omega (arith, header-first (c .nodes)))
 
 -- "16 + (F+1) × (16 + N × (8+N))"
 pub length-formula : (n ahead : ℕ) → stateLength n ahead ≡ 16 + (ahead + 1) * (16 + n * (8 + n))
@@ -59,13 +59,13 @@ unfolding allBelow lengthAgrees created epochsAt
 lengths-256 = refl
 
 -- THE RANGE RULES. Behind the numbers all words are 0
-pub created-zeros : (c : Numbers) (i : ℕ) → 11 ≤ i → getD (created c) i 0 ≡ 0
+pub created-zeros : (c : Numbers) (i : ℕ) → inputAt ≤ i → getD (created c) i 0 ≡ 0
 unfolding created
 created-zeros c i h =
-    let e : i ≡ 11 + (i - 11) = omega arith in
+    let e : i ≡ inputAt + (i - inputAt) = omega arith in
     ap (λ (j : ℕ). getD (created c) j 0) e
-    ∙ (getD-append-add (createdHeader c) (replicate (stateLength (c .nodes) (c .ahead) - 11) 0) (i - 11) 0
-    ∙ zeros-at (stateLength (c .nodes) (c .ahead) - 11) (i - 11))
+    ∙ (getD-append-add (createdHeader c) (replicate (stateLength (c .nodes) (c .ahead) - inputAt) 0) (i - inputAt) 0
+    ∙ zeros-at (stateLength (c .nodes) (c .ahead) - inputAt) (i - inputAt))
 
 pub created-shaped : (c : Numbers) → Shaped (c .nodes) (c .ahead) (created c)
 unfolding created
@@ -79,7 +79,7 @@ created-epoch c e i = go (leb (epochLength (c .nodes)) i) refl
     p : ℕ
     p = placeOf (created c) e
 
-    first : 11 ≤ p
+    first : inputAt ≤ p
     first = omega (arith, place-is (c .nodes) (c .ahead) (created c) (created-shaped c) e, header-first (c .nodes))
 
     go : (t : Bool) → leb (epochLength (c .nodes)) i ≡ t → getD (epochWords (created c) e) i 0 ≡ 0
@@ -142,8 +142,8 @@ module _ (c : Numbers) (h : numbersOk c ≡ true) where
         eq-eqb _ _ (sym (first-again (c .schedule) (c .first))),
         eq-eqb _ _ (sym (second-again (c .schedule) (c .second))),
         le-leb (c .epoch) (lastEpoch + c .ahead + 1) (omega (arith, leb-true (c .epoch) lastEpoch (test 6))),
-        zeros-at (stateLength (c .nodes) (c .ahead) - 11) 0,
-        zeros-at (stateLength (c .nodes) (c .ahead) - 11) 1,
+        zeros-at (stateLength (c .nodes) (c .ahead) - inputAt) 0,
+        zeros-at (stateLength (c .nodes) (c .ahead) - inputAt) 1,
       ) (and-both _ _ (all-every (λ x. eqb x 0) (headerLength - vacantAt) vacantAt (created c) (λ k l. eq-eqb _ _ (created-zeros c (vacantAt + k) (omega arith)))) refl)
 
   pub created-ok : stateOk (created c) ≡ true

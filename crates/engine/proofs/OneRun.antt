@@ -23,7 +23,7 @@ use Rattle.subset.proofs.Votes.{Voted}
 use Rattle.epoch.specs.declared.SubsetHandlingStrategy.{SubsetHandlingStrategy}
 use Rattle.epoch.specs.declared.MessageContent.the-variants.{Broadcast, Agreement, DecryptionShare}
 use Rattle.epoch.proofs.Told.{fivesAmong, shareOf, EpochLaws}
-use Rattle.engine.specs.State.{nodes, faulty, ahead, currentEpoch, faultCount, faultsAt, faultLimit, lastEpoch, netOf, strategyOf, encryptedIn, epochWords, stateOk}
+use Rattle.engine.specs.State.{nodesAt, aheadAt, nodes, faulty, ahead, currentEpoch, faultCount, faultsAt, faultLimit, lastEpoch, netOf, strategyOf, encryptedIn, epochWords, stateOk}
 use Rattle.engine.specs.HoneyBadger.{skipToEpoch, propose, handleMessage}
 use Rattle.engine.specs.Calls.{countFaults, proposeCall, contentOk, contentOf, messageCall, skipReply, skipState}
 use Rattle.engine.specs.Laws.{Skipped}
@@ -208,7 +208,7 @@ module _ (Holds : NetworkInfo → SubsetHandlingStrategy → Bool → List ℕ �
   skipped-up : (w : List ℕ) (cur : ℕ) (vs ds ts : Tk) → SimOf w cur vs ds ts → (target : ℕ) (v : List ℕ) → cur < target → Skipped target w v → SimOf v target vs ds ts
   skipped-up w cur vs ds ts h target v up k =
       record {
-        shaped = record { long = k .long ∙ h .shaped .long; nodes = k .header 1 (omega arith) (omega arith) (omega arith) ∙ h .shaped .nodes; ahead = k .header 3 (omega arith) (omega arith) (omega arith) ∙ h .shaped .ahead };
+        shaped = record { long = k .long ∙ h .shaped .long; nodes = k .header nodesAt (omega arith) (omega arith) (omega arith) ∙ h .shaped .nodes; ahead = k .header aheadAt (omega arith) (omega arith) (omega arith) ∙ h .shaped .ahead };
         same = λ i l. k .header i (omega arith) (omega arith) (omega arith) ∙ h .same i l;
         current = k .epoch;
         slots = λ e l u. slot e l u (leb e (cur + ahead w₀)) refl;

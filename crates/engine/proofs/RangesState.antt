@@ -63,6 +63,7 @@ pub record HeaderOk (w : List ℕ) : Type 0 where
 
 -- A STATE THAT KEEPS THE RULE
 module _ (w : List ℕ) (ok : stateOk w ≡ true) where
+  -- each of the header's tests holds
   pub test : (i : ℕ) → getD (headerTests w) i true ≡ true
   unfolding stateOk
   test i = test-holds (headerTests w) (and-true (headerInRange w) _ (and-true _ _ ok .0) .0) i
@@ -70,20 +71,20 @@ module _ (w : List ℕ) (ok : stateOk w ≡ true) where
   pub header-ok : HeaderOk w
   unfolding headerTests
   header-ok =
-      let n = and-true (leb 1 (nodes w)) (leb (nodes w) 16) (test 1) in
+      let n = and-true (leb 1 (nodes w)) (leb (nodes w) 16) (test nodesAt) in
       record {
         some = leb-true 1 (nodes w) (n .0);
         few = leb-true (nodes w) 16 (n .1);
-        epoch = leb-true _ _ (test 10);
-        given = leb-true _ _ (test 11);
-        counted = leb-true _ _ (test 12);
-        rest = λ k l. eqb-true _ _ (all-at (λ x. eqb x 0) (headerLength - vacantAt) vacantAt w (test 13) k l);
+        epoch = leb-true _ _ (test epochAt);
+        given = leb-true _ _ (test inputAt);
+        counted = leb-true _ _ (test faultsAt);
+        rest = λ k l. eqb-true _ _ (all-at (λ x. eqb x 0) (headerLength - vacantAt) vacantAt w (test vacantAt) k l);
       }
 
   -- it holds a network as create accepts it
   pub network-ok : Network (netOf w)
   unfolding headerTests netOf
-  network-ok = record { some = header-ok .some; sixteen = header-ok .few; faulty = ltb-true _ _ (test 2); own = leb-true _ _ (test 4) }
+  network-ok = record { some = header-ok .some; sixteen = header-ok .few; faulty = ltb-true _ _ (test faultyAt); own = leb-true _ _ (test ownAt) }
 
   -- and has the shape of its own numbers
   pub shaped : Shaped (nodes w) (ahead w) w
@@ -213,16 +214,16 @@ module _ (w : List ℕ) (ok : stateOk w ≡ true) where
         h .same scheduleAt (omega arith),
         h .same firstNumberAt (omega arith),
         h .same secondNumberAt (omega arith),
-        test w ok 0,
-        test w ok 1,
-        test w ok 2,
-        test w ok 3,
-        test w ok 4,
-        test w ok 5,
-        test w ok 6,
-        test w ok 7,
-        test w ok 8,
-        test w ok 9,
+        test w ok profileAt,
+        test w ok nodesAt,
+        test w ok faultyAt,
+        test w ok aheadAt,
+        test w ok ownAt,
+        test w ok keyAt,
+        test w ok strategyAt,
+        test w ok scheduleAt,
+        test w ok firstNumberAt,
+        test w ok secondNumberAt,
         le-leb (currentEpoch v) (lastEpoch + ahead w + 1) (h .epoch),
         le-leb (input v) 1 (h .given),
         le-leb (faultCount v) faultLimit (h .counted),

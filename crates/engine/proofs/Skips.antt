@@ -6,7 +6,7 @@ use mathlib.Core.Path.{_≡_, refl, sym, ap, _∙_}
 use mathlib.Core.Logic.{_≢_}
 use mathlib.Core.List.{List}
 use mathlib.Core.Bool.{Bool, true, false, cond}
-use lib.Dec.{eqb, ltb}
+use lib.Dec.{eqb, leb, ltb}
 use lib.ListN.{getD, set, replicate, length-set}
 use lib.Seq.{getD-set-same, getD-set-other}
 use borrow.Author.Tests.{eqb-true, eqb-false, le-leb, lt-leb, ltb-true, lt-ltb}
@@ -92,7 +92,21 @@ pub skip-stays : (target : ℕ) (w : List ℕ) → target ≤ currentEpoch w →
 unfolding skipToEpoch
 skip-stays target w h = rw (le-leb target (currentEpoch w) h)
 
-module _ (target : ℕ) (w : List ℕ) (ok : stateOk w ≡ true) (up : currentEpoch w < target) where
+-- of the header it writes current epoch and has input alone
+pub skip-head : (n f target : ℕ) (w : List ℕ) → Shaped n f w → (i : ℕ) → i < headerLength → i ≢ epochAt → i ≢ inputAt → getD (skipToEpoch target w) i 0 ≡ getD w i 0
+unfolding skipToEpoch
+skip-head n f target w h i l a b = go (leb target (currentEpoch w))
+  where
+    cleared : List ℕ
+    cleared = clearBelow target (ahead w + 1) (currentEpoch w) w
+
+    go : (t : Bool) → getD (cond t w (set (set cleared epochAt target) inputAt 0)) i 0 ≡ getD w i 0
+    go true = refl
+    go false =
+        getD-set-other (set cleared epochAt target) inputAt i 0 0 b
+        ∙ (getD-set-other cleared epochAt i target 0 a ∙ clear-head n f target (ahead w + 1) (currentEpoch w) w h i l)
+
+module _ (target : ℕ) (w : List ℕ) (h : Shaped (nodes w) (ahead w) w) (up : currentEpoch w < target) where
   abbrev n : ℕ
   n = nodes w
 
@@ -103,7 +117,7 @@ module _ (target : ℕ) (w : List ℕ) (ok : stateOk w ≡ true) (up : currentEp
   cleared = clearBelow target (ahead w + 1) (currentEpoch w) w
 
   cleared-shaped : Shaped n f cleared
-  cleared-shaped = clear-shaped n f target (f + 1) (currentEpoch w) w (shaped w ok)
+  cleared-shaped = clear-shaped n f target (f + 1) (currentEpoch w) w h
 
   abbrev moved : List ℕ
   moved = set cleared epochAt target
@@ -128,7 +142,7 @@ module _ (target : ℕ) (w : List ℕ) (ok : stateOk w ≡ true) (up : currentEp
 
   same-before : (e : ℕ) → currentEpoch w ≤ e → before e % (f + 1) ≡ e % (f + 1)
   unfolding before
-  same-before e h = add-mod-mod (currentEpoch w) (e - currentEpoch w) (f + 1) ∙ ap (λ (x : ℕ). x % (f + 1)) (omega arith)
+  same-before e l = add-mod-mod (currentEpoch w) (e - currentEpoch w) (f + 1) ∙ ap (λ (x : ℕ). x % (f + 1)) (omega arith)
 
   near-before : (e : ℕ) → before e < currentEpoch w + (f + 1)
   unfolding before
@@ -143,23 +157,24 @@ module _ (target : ℕ) (w : List ℕ) (ok : stateOk w ≡ true) (up : currentEp
       lt-of-not-le (λ (q : target ≤ before e).
       omega (arith, near-before e, same-place (f + 1) (before e) e (same-before e (omega arith)) (omega arith) (omega (arith, near-before e))))
 
-  pub skip-moves : Skipped target w (skipToEpoch target w)
-  skip-moves =
+  pub skipped : Skipped target w (skipToEpoch target w)
+  skipped =
       rw left-is (record {
-        long = length-set moved inputAt 0 ∙ length-set cleared epochAt target ∙ cleared-shaped .long ∙ sym (shaped w ok .long);
+        long = length-set moved inputAt 0 ∙ length-set cleared epochAt target ∙ cleared-shaped .long ∙ sym (h .long);
         epoch =
             getD-set-other moved inputAt epochAt 0 0 (omega arith)
             ∙ getD-set-same cleared epochAt target 0 (omega (arith, cleared-shaped .long, header-first n));
         input = getD-set-same moved inputAt 0 0 (omega (arith, moved-shaped .long, header-first n));
-        header = λ i h a b.
-            getD-set-other moved inputAt i 0 0 b ∙ getD-set-other cleared epochAt i target 0 a
-            ∙ clear-head n f target (f + 1) (currentEpoch w) w (shaped w ok) i h;
-        kept = λ e a b. left-words e ∙ clear-kept n f target e (f + 1) (currentEpoch w) w (shaped w ok) a (omega arith);
-        cleared = λ e a b c. left-words e ∙ clear-gone n f target e (f + 1) (currentEpoch w) w (shaped w ok) e a (omega arith) b refl;
+        header = λ i l a b. rw left-is at (skip-head n f target w h i l a b);
+        kept = λ e a b. left-words e ∙ clear-kept n f target e (f + 1) (currentEpoch w) w h a (omega arith);
+        cleared = λ e a b c. left-words e ∙ clear-gone n f target e (f + 1) (currentEpoch w) w h e a (omega arith) b refl;
         vacant = λ e a b.
             left-words e
-            ∙ clear-gone n f target e (f + 1) (currentEpoch w) w (shaped w ok) (before e) (low-before e) (near-before e) (below-before e a b) (same-before e (omega arith));
+            ∙ clear-gone n f target e (f + 1) (currentEpoch w) w h (before e) (low-before e) (near-before e) (below-before e a b) (same-before e (omega arith));
       })
+
+pub skip-moves : (target : ℕ) (w : List ℕ) → stateOk w ≡ true → currentEpoch w < target → Skipped target w (skipToEpoch target w)
+skip-moves target w ok up = skipped target w (shaped w ok) up
 
 -- the call: its reply depends on the target and on whether the state is one, and with reply 0 it is this skip
 pub skip-reply : (target : ℕ) (w v : List ℕ) → stateOk w ≡ stateOk v → skipReply target w ≡ skipReply target v

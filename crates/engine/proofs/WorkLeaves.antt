@@ -8,15 +8,11 @@ use Rattle.steps.specs.Answers.{Tape}
 use Rattle.steps.specs.Steps.{Out}
 use Rattle.steps.specs.Runs.{going, Run, Left, ends, inside, leaves}
 use Rattle.steps.proofs.Runs.{onward-go, onward-stop}
+use Rattle.steps.proofs.RunLaws.{placed, leaves-inside}
 use Rattle.epoch.specs.Batch.{isReady, outputBatch}
 use Rattle.engine.specs.State.{nodes, ahead, currentEpoch, epochWords}
 use Rattle.engine.specs.Work.{epochCall, batchesFrom, Worked, worked, beside, workIn}
-use Rattle.steps.proofs.RunLaws.{leaves-inside}
 use Rattle.engine.proofs.Looping.{batches-ready, batches-over}
-
--- what is left of a part, as what is left of the whole
-abbrev pub placed : {S T : Type 0} → (T → S) → Left T (Unit {0}) → Left S (Unit {0})
-placed put d = record { state = put (d .state); verdict = d .verdict; tape = d .tape; out = d .out }
 
 -- A TURN OF THE LOOP, m are left after it
 module _ (n : ℕ) (words : ℕ → List ℕ) (m e : ℕ) (p : Tape) (o : Out) where

@@ -17,20 +17,20 @@ use Rattle.steps.specs.declared.network_info.NetworkInfo.{NetworkInfo}
 use Rattle.steps.specs.Network.{isValidator}
 use Rattle.steps.specs.Steps.{fault}
 use Rattle.steps.proofs.Runs.{onward-at}
+use Rattle.steps.proofs.RunLaws.{onward-assoc, onward-inside}
 use Rattle.subset.specs.Words.{epochLength}
 use Rattle.epoch.specs.Words.{isVacant}
 use Rattle.epoch.specs.declared.SubsetHandlingStrategy.{SubsetHandlingStrategy}
 use Rattle.epoch.specs.declared.MessageContent.{MessageContent}
 use Rattle.epoch.specs.Epoch.{newEpoch, propose as proposeInEpoch, handleMessageContent}
 use Rattle.epoch.proofs.Writes.{keeps-propose, keeps-message}
-use Rattle.engine.specs.State.{epochAt, inputAt, nodes, ahead, currentEpoch, netOf, strategyOf, encryptedIn, epochWords, withEpoch, stateOk}
+use Rattle.engine.specs.State.{epochAt, inputAt, faultsAt, faultCount, nodes, ahead, currentEpoch, netOf, strategyOf, encryptedIn, epochWords, withEpoch, stateOk}
 use Rattle.engine.specs.HoneyBadger.{epochStateMut, inEpoch, outputBatches, propose, handleMessage}
 use Rattle.engine.specs.Work.{built, epochCall, batchesFrom, Worked, worked, beside, workIn, proposeWork, messageWork, committed}
 use Rattle.engine.proofs.Places.{same-place}
 use Rattle.engine.proofs.Window.{Shaped, with-own, net-same, strategy-same, encrypted-same, words-long, with-head, with-shaped, with-twice, with-same, with-other, set-shaped, set-words}
 use Rattle.engine.proofs.RangesState.{shaped}
-use Rattle.engine.proofs.Skips.{skip-stays}
-use Rattle.steps.proofs.RunLaws.{onward-assoc, onward-inside}
+use Rattle.engine.proofs.Skips.{skip-stays, skip-head, skipped}
 use Rattle.engine.proofs.Looping.{batches-apart, batches-never-fail}
 
 -- ONE EPOCH's instances are built in its own words
@@ -123,6 +123,15 @@ module _ (w v : List ℕ) (over : Over w v) (e : ℕ) (low : currentEpoch w ≤ 
             let ne : d ≡ e → ⊥ = eqb-false d e z in
             sym (with-other (nodes w) (ahead w) v (over .shape) e d x full (λ q. ne (sym (same-place (ahead w + 1) e d q (omega arith) (omega arith)))) ∙ over .words d)
 
+    -- an epoch whose batch went out is not there any more
+    pub commit-clears : (d : ℕ) → e < d → epochWords (committed v e (worked x d)) e ≡ replicate (epochLength (nodes w)) 0
+    unfolding committed
+    commit-clears d l =
+        let c = after-head epochAt (omega arith) in
+        let own : Shaped (nodes (withEpoch v e x)) (ahead (withEpoch v e x)) (withEpoch v e x) = rw (after-shaped .nodes, after-shaped .ahead) after-shaped in
+        skipped d (withEpoch v e x) own (omega arith) .cleared e (omega arith) l (omega (arith, after-shaped .ahead))
+        ∙ ap (λ (n : ℕ). replicate (epochLength n) 0) (after-shaped .nodes)
+
     -- no batch: these words alone are written
     pub none-next : committed v e (worked x (currentEpoch w)) ≡ withEpoch v e x
     unfolding committed
@@ -182,6 +191,25 @@ module _ (w v : List ℕ) (over : Over w v) (e : ℕ) (low : currentEpoch w ≤ 
         go refused = ap (stopped refused) (sym (none-next (c .state) full))
         go (failed x) = ap (stopped (failed x)) (sym (none-next (c .state) full))
 
+    -- the words that the run leaves are those of the epoch's call
+    pub work-words : workIn w e body p .state .words ≡ c .state
+    unfolding workIn onward onwardAs
+    work-words = go (c .verdict)
+      where
+        go : (t : Verdict (Unit {0})) → onwardAs {B = Unit {0}} t (inside (λ x. worked x (currentEpoch w)) c) (λ _ s q.
+            inside (worked (s .words)) (batchesFrom (nodes w) (beside w e (s .words)) (ahead w + 1) (s .next) q)) .state .words ≡ c .state
+        go (going x) = refl
+        go refused = refl
+        go (failed x) = refl
+
+    -- the commit writes no fault count: `countFaults` alone does
+    pub commit-counts : faultCount (committed v e (workIn w e body p .state)) ≡ faultCount v
+    unfolding committed
+    commit-counts =
+        let size : length (workIn w e body p .state .words) ≡ epochLength (nodes w) = ap length work-words ∙ full in
+        skip-head (nodes w) (ahead w) _ _ (after-shaped _ size) faultsAt (omega arith) (omega arith) (omega arith)
+        ∙ with-head (nodes w) (ahead w) v (over .shape) e _ size faultsAt (omega arith)
+
     -- where the run fails no batch went out: the epoch's words alone are written
     pub failed-keeps : (error : ℕ) → workIn w e body p .verdict ≡ failed error
         → committed v e (workIn w e body p .state) ≡ withEpoch v e (workIn w e body p .state .words)
@@ -235,6 +263,17 @@ module _ (w : List ℕ) (ok : stateOk w ≡ true) (p : Tape) where
           let numbers : (i : ℕ) → i < epochAt → getD u i 0 ≡ getD w i 0 = λ i k. head i (omega arith) in
           rw (head epochAt (omega arith), net-same u w numbers, strategy-same u w numbers, encrypted-same u w numbers c)
 
+  pub propose-counts : faultCount (propose w p .state) ≡ faultCount w
+  unfolding proposeWork
+  propose-counts = ap (λ r. faultCount (r .state)) propose-apart ∙ go (isValidator (netOf w))
+    where
+      go : (t : Bool) → faultCount (cond t (inside (committed given (currentEpoch w)) (proposeWork w p)) (ends (going tt) w p) .state) ≡ faultCount w
+      go true =
+          commit-counts w given (over-input w ok) (currentEpoch w) (omega arith) (omega arith)
+          (proposing w (currentEpoch w)) (sized-propose (netOf w) (strategyOf w) (encryptedIn w (currentEpoch w))) p
+          ∙ getD-set-other w inputAt faultsAt 1 0 (omega arith)
+      go false = refl
+
   -- where it fails, has input and the epoch's words are kept
   pub propose-failed : (error : ℕ) → proposeWork w p .verdict ≡ failed error
       → committed (set w inputAt 1) (currentEpoch w) (proposeWork w p .state) ≡ withEpoch (set w inputAt 1) (currentEpoch w) (proposeWork w p .state .words)
@@ -274,6 +313,16 @@ module _ (w : List ℕ) (ok : stateOk w ≡ true) (p : Tape) where
                 let u : List ℕ = withEpoch w epoch x in
                 let numbers : (i : ℕ) → i < epochAt → getD u i 0 ≡ getD w i 0 = λ i k. head i (omega arith) in
                 rw (net-same u w numbers, strategy-same u w numbers, encrypted-same u w numbers epoch)
+
+    pub message-counts : faultCount (handleMessage sender epoch proposer content w p .state) ≡ faultCount w
+    unfolding messageWork
+    message-counts = ap (λ r. faultCount (r .state)) message-apart ∙ go (ltb (currentEpoch w + ahead w) epoch) refl (ltb epoch (currentEpoch w)) refl
+      where
+        go : (s : Bool) → ltb (currentEpoch w + ahead w) epoch ≡ s → (t : Bool) → ltb epoch (currentEpoch w) ≡ t
+            → faultCount (cond s (before (fault 1 sender 0 ∷ []) (ends (going tt) w p)) (cond t (ends (going tt) w p) (inside (committed w epoch) (messageWork sender epoch proposer content w p))) .state) ≡ faultCount w
+        go true a t b = refl
+        go false a true b = refl
+        go false a false b = commit-counts w w (over-same w ok) epoch (ltb-false _ _ b) (ltb-false _ _ a) (handling w) size p
 
     pub message-failed : currentEpoch w ≤ epoch → epoch ≤ currentEpoch w + ahead w → (error : ℕ) → messageWork sender epoch proposer content w p .verdict ≡ failed error
         → committed w epoch (messageWork sender epoch proposer content w p .state) ≡ withEpoch w epoch (messageWork sender epoch proposer content w p .state .words)

@@ -56,11 +56,11 @@ concludeAs (failed error) r epoch state scratch step =
 abbrev pub conclude : Run (List ℕ) (Unit {0}) → ℕ → List ℕ → List ℕ → List ℕ → After
 conclude r epoch state scratch step = concludeAs (r .verdict) r epoch state scratch step
 
--- "7: content not 1 broadcast, 2 agreement, 3 share; proposer ≥ N;"
+-- "7: content not 1 broadcast, 2 agreement, 3 share; proposer ≥ N; […]"
 unfoldable pub contentOk : ℕ → ℕ → ℕ → Bool
 contentOk n content proposer = within 1 3 content && ltb proposer n
 
--- "item not 0 for contents 1 and 2, or not a handle for 3"
+-- "7: […] item not 0 for contents 1 and 2, or not a handle for 3"
 unfoldable pub itemOk : ℕ → ℕ → Bool
 itemOk content item = cond (eqb content 3) (handle item) (eqb item 0)
 

@@ -67,7 +67,7 @@ epochsAt n = headerLength
 abbrev pub stateLength : ℕ → ℕ → ℕ
 stateLength n ahead = epochsAt n + (ahead + 1) * epochLength n
 
--- "4: scratch shorter than state": how many words of scratch a call wants. No law knows the number but `scratch-is` of proofs/Refusals.antt
+-- "4: scratch shorter than the state": how many words of it a call wants. No law knows the number but `scratch-is` of proofs/Refusals.antt
 unfoldable pub scratchLength : ℕ → ℕ → ℕ
 scratchLength n ahead = stateLength n ahead
 
@@ -159,7 +159,7 @@ module _ (w : List ℕ) where
   unfoldable pub withoutEpoch : ℕ → List ℕ
   withoutEpoch epoch = withEpoch epoch (replicate (epochLength nodes) 0)
 
-  -- REPLY 3's RULE: each field in its range, whatever the state's past
+  -- REPLY 3's RULE: each field in its range, whatever the state's past. Test i is that of word i, the last that of all words behind
   unfoldable pub headerTests : List Bool
   headerTests =
       eqb profile 1

@@ -1,5 +1,5 @@
 -- A call as the code does it: the run reads the state and works on the words of one epoch apart from it, and a commit writes afterwards.
--- Nobody has to believe these: `proofs/Works.antt` proves that they are the runs and calls of `HoneyBadger.antt` and `Calls.antt`.
+-- Nobody has to believe these: proofs/Works.antt and proofs/Settled.antt prove that they are the runs and calls of HoneyBadger.antt and Calls.antt.
 use Prim.Native.Nat.{ℕ, zero, suc, _+_}
 use mathlib.Core.List.{List}
 use mathlib.Core.Bool.{true, false, cond}

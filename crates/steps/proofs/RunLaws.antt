@@ -38,9 +38,11 @@ onward-inside {A = A} put r k m h = go (r .verdict)
     go refused = refl
     go (failed c) = refl
 
--- what a part's function leaves, as what the whole leaves
-pub leaves-inside : {S T A : Type 0} (put : T → S) (d : Left T A) (o : Out) (r : Run T A) → d ≡ leaves o r
-    → record { state = put (d .state); verdict = d .verdict; tape = d .tape; out = d .out } ≡ leaves o (inside put r)
+-- what is left of a part, as what is left of the whole
+abbrev pub placed : {S T A : Type 0} → (T → S) → Left T A → Left S A
+placed put d = record { state = put (d .state); verdict = d .verdict; tape = d .tape; out = d .out }
+
+pub leaves-inside : {S T A : Type 0} (put : T → S) (d : Left T A) (o : Out) (r : Run T A) → d ≡ leaves o r → placed put d ≡ leaves o (inside put r)
 leaves-inside put d o r e = rw e
 
 -- A RUN THAT CHANGES NOTHING
