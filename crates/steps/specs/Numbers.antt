@@ -180,7 +180,18 @@ decryption = 24
 abbrev pub multipleInputs : ℕ
 multipleInputs = 25
 
--- LIMITS. "A handle is a number 1..2^32−1": the last one. A fault's kind has the same limit ("b below 2^32")
+-- LIMITS. "N outside 1..16", "look-ahead F above 15"
+abbrev pub nodeLimit : ℕ
+nodeLimit = 16
+
+abbrev pub aheadLimit : ℕ
+aheadLimit = 15
+
+-- "EveryNthEpoch 0 or at least 2^32, TickTock sum 0 or at least 2^32"
+abbrev pub scheduleLimit : ℕ
+scheduleLimit = 0xffff_ffff
+
+-- "A handle is a number 1..2^32−1": the last one. A fault's kind has the same limit ("b below 2^32")
 abbrev pub handleLimit : ℕ
 handleLimit = 0xffff_ffff
 

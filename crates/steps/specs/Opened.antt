@@ -11,7 +11,7 @@ use Rattle.steps.specs.Times
 use Rattle.steps.specs.Batches
 
 unfoldable pub opened : Unit {0}
-unfolding Table.recordOk Table.contextAfter Table.mayFollow Table.chainOk Table.shapeOk Table.tableOk
+unfolding Table.recordOk Table.contextAfter Table.linkOk Table.mayFollow Table.chainOk Table.shapeOk Table.tableOk
     Answers.link Answers.recAt Answers.onRecord Answers.walk Answers.chain Answers.headOf Answers.askFor Answers.ask
     Answers.askAbout
     Steps.messages Steps.faults Steps.outputs Steps.linkAfter Steps.chainWords Steps.firstAt Steps.laidOut Steps.nextOf

@@ -134,8 +134,8 @@ pub record Counted (s : Step) : Type 0 where
   pub outputs : s .outputs .at ≤ countLimit
 
 -- the step of a second run: where each list of a counted step begins and ends
-abbrev pub starting : Step → Step
-starting s =
+abbrev pub writing : Step → Step
+writing s =
     record {
       messages = record { at = 1; end = 1 + s .messages .at };
       faults = record { at = 1 + s .messages .at; end = 1 + s .messages .at + s .faults .at };

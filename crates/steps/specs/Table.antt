@@ -41,9 +41,13 @@ contextAfter context kind a = cond (within broadcastProposal proposeFalse kind) 
 abbrev pub word : List ℕ → ℕ → ℕ → ℕ
 word t i j = getD t (i * 4 + j) 0
 
--- "Every next is 0 or above its own index and inside the table": record i may follow record own
+-- "Every next is 0 or above its own index and inside the table": the next of record own
+unfoldable pub linkOk : List ℕ → ℕ → ℕ → Bool
+linkOk t own next = eqb next 0 || (ltb own next && ltb next (length t / 4))
+
+-- record i may follow record own
 unfoldable pub mayFollow : ℕ → List ℕ → ℕ → ℕ → ℕ → Bool
-mayFollow n t own i context = ltb own i && ltb i (length t / 4) && recordOk n context (word t i 1) (word t i 2) (word t i 3)
+mayFollow n t own i context = linkOk t own i && recordOk n context (word t i 1) (word t i 2) (word t i 3)
 
 -- the chain from record i on, reached from record own. Indexes rise along it, so that a fuel of as many records as there are words is enough
 unfoldable pub chainOk : ℕ → ℕ → List ℕ → ℕ → ℕ → ℕ → Bool
@@ -54,7 +58,7 @@ chainOk (suc fuel) n t own i context =
     (chainOk fuel n t i (getD t (i * 4) 0) (contextAfter context (word t i 1) (word t i 2)))
     false)
 
--- "4 to 4,096 words, a multiple of four. Record 0 holds the first index and three zeros."
+-- the shape of a table: "4 to 4,096 words, a multiple of four. Record 0 holds the first index and three zeros."
 unfoldable pub shapeOk : List ℕ → Bool
 shapeOk t =
     cond (ltb (length t) 4) false

@@ -1,6 +1,7 @@
 // Reply 5: whether a table of words is an answer table, as document 01 has it.
 ghost use mathlib.Core.Path.{_≡_};
-ghost use Rattle.steps.specs.Table.{handle, recordOk, contextAfter, shapeOk, mayFollow, tableOk};
+ghost use Prim.Native.Nat.{_≤_};
+ghost use Rattle.steps.specs.Table.{handle, recordOk, contextAfter, shapeOk, linkOk, mayFollow, tableOk};
 use crate::numbers::BROADCAST_MESSAGE;
 use crate::numbers::BROADCAST_PROPOSAL;
 use crate::numbers::CONTRIBUTION_DECRYPTED;
@@ -63,28 +64,29 @@ fn context_after(context: u64, kind: u64, a: u64) -> u64
 }
 
 // The table's length, and the three zeros of record 0.
-fn shape_ok(answers: &[u64]) -> bool
-    ensures { λ r. ⌜ r ≡ shapeOk (now (answers .entry)) ⌝ }
+pub fn shape_ok(table: &[u64]) -> bool
+    ensures { λ r. ⌜ r ≡ shapeOk (now (table .entry)) ⌝ }
 {
-    let len = answers.len();
+    let len = table.len();
     if len < 4 {
         return false;
     }
-    (len <= TABLE_LIMIT)
-        & (len % 4 == 0)
-        & (answers[1] == 0)
-        & (answers[2] == 0)
-        & (answers[3] == 0)
+    (len <= TABLE_LIMIT) & (len % 4 == 0) & (table[1] == 0) & (table[2] == 0) & (table[3] == 0)
 }
 
-// Whether record `i` may follow record `own`: its index is above and inside the table, and it keeps its kind's rule.
+// Whether record `own` may have this next: 0, or above its own index and inside the table.
+pub fn link_ok(table: &[u64], own: usize, next: usize) -> bool
+    ensures { λ r. ⌜ r ≡ linkOk (now (table .entry)) own next ⌝ }
+{
+    (next == 0) | ((own < next) & (next < table.len() / 4))
+}
+
+// Whether record `i` may follow record `own`: it may be its next, and it keeps its kind's rule.
 fn may_follow(n: u64, answers: &[u64], own: usize, i: usize, context: u64) -> bool
+    requires { ⌜ 1 ≤ i ⌝ }
     ensures { λ r. ⌜ r ≡ mayFollow n (now (answers .entry)) own i context ⌝ }
 {
-    if i <= own {
-        return false;
-    }
-    if answers.len() / 4 <= i {
+    if !link_ok(answers, own, i) {
         return false;
     }
     record_ok(

@@ -105,6 +105,12 @@ pub const DECRYPTION: u64 = 24;
 
 pub const MULTIPLE_INPUTS: u64 = 25;
 
+// Limits. Nodes, look-ahead, and the numbers of a schedule.
+pub const NODE_LIMIT: u64 = 16;
+
+pub const AHEAD_LIMIT: u64 = 15;
+
+pub const SCHEDULE_LIMIT: u64 = 0xffff_ffff;
 // The last handle. A fault's kind has the same limit.
 pub const HANDLE_LIMIT: u64 = 0xffff_ffff;
 // The fault count stops here.

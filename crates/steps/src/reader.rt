@@ -49,7 +49,7 @@ pub struct Parts {
 }
 
 // The record at a place. A next that is not above its own record ends the chain.
-fn peek(answers: &[u64], place: usize) -> Found
+pub fn peek(answers: &[u64], place: usize) -> Found
     ensures { λ r. ⌜ r ≡ headOf (chain (now (answers .entry)) place) ⌝ }
 {
     if place == 0 {
@@ -76,7 +76,8 @@ fn peek(answers: &[u64], place: usize) -> Found
 
 // The next answer, which has to be of this kind.
 pub fn ask(answers: &[u64], place: &mut usize, kind: u64) -> Answer
-    ensures { λ r. ⌜ asked r (tapeAt (now (answers .entry)) (now (place .exit))) ≡ ask (tapeAt (now (answers .entry)) (now (place .entry))) kind ⌝ }
+    ensures { λ r. ⌜ asked r (tapeAt (now (answers .entry)) (now (place .exit)))
+        ≡ ask (tapeAt (now (answers .entry)) (now (place .entry))) kind ⌝ }
 {
     let at = *place;
     match peek(answers, at) {
@@ -98,7 +99,8 @@ pub fn ask(answers: &[u64], place: &mut usize, kind: u64) -> Answer
 
 // The next answer, which has to be of this kind and about this node.
 pub fn ask_about(answers: &[u64], place: &mut usize, kind: u64, who: u64) -> Answer
-    ensures { λ r. ⌜ asked r (tapeAt (now (answers .entry)) (now (place .exit))) ≡ askAbout (tapeAt (now (answers .entry)) (now (place .entry))) kind who ⌝ }
+    ensures { λ r. ⌜ asked r (tapeAt (now (answers .entry)) (now (place .exit)))
+        ≡ askAbout (tapeAt (now (answers .entry)) (now (place .entry))) kind who ⌝ }
 {
     let at = *place;
     match peek(answers, at) {
@@ -155,7 +157,8 @@ fn part_entry(
     a: u64,
     b: u64,
 ) -> Step
-    ensures { λ r. ⌜ out r (now (words .exit)) ≡ putAll (out step (now (words .entry))) (partEntries content proposer kind a b) ⌝ }
+    ensures { λ r. ⌜ out r (now (words .exit))
+        ≡ putAll (out step (now (words .entry))) (partEntries content proposer kind a b) ⌝ }
 {
     if kind == MESSAGE_PART {
         return step.message(words, message_kind(content), proposer, b);
@@ -202,7 +205,8 @@ pub fn read_parts(
     step: Step,
     words: &mut [u64],
 ) -> Parts
-    ensures { λ r. ⌜ left r (tapeAt (now (answers .entry)) (now (place .exit))) (now (words .exit)) ≡ leaves (out step (now (words .entry))) (readParts content proposer tt (tapeAt (now (answers .entry)) (now (place .entry)))) ⌝ }
+    ensures { λ r. ⌜ left r (tapeAt (now (answers .entry)) (now (place .exit))) (now (words .exit))
+        ≡ leaves (out step (now (words .entry))) (readParts content proposer tt (tapeAt (now (answers .entry)) (now (place .entry)))) ⌝ }
 {
     let mut output = Output::Missing;
     let mut s = step;

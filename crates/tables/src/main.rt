@@ -119,7 +119,7 @@ fn begin(counted: Step, words: &mut [u64], epoch: u64) -> Step {
     if 9 < outputs.at {
         return Step::counting();
     }
-    let step = counted.starting();
+    let step = counted.writing();
     if 4 <= words.len() {
         step.header(words, epoch);
     }
