@@ -8,6 +8,8 @@
 FN is the last part of the folder's path: count, Step/fault, +start_decryption+try_output. README.md beside this file says what
 answers.txt may hold. Nothing here proves anything: the verdict is `rt ci`.
 """
+import hashlib
+import json
 import os
 import re
 import shutil
@@ -171,7 +173,7 @@ class Places:
 
 
 def paths_in(skeleton, generated):
-    """The path_at of this skeleton, from the folder of what rt generated for it."""
+    """The path_at of this skeleton, from the texts of the Lts files that rt generated for it."""
     files = {}
 
     def path_at(block):
@@ -181,7 +183,7 @@ def paths_in(skeleton, generated):
         if module:
             name = module[1].replace("Tie", "Lts")
             if name not in files:
-                files[name] = Places((generated / f"{name}.antt").read_text())
+                files[name] = Places(generated[name])
             known = files[name].paths(files[name].needs.get(m[2], m[2]))
 
         def path(thing):
@@ -194,16 +196,17 @@ def paths_in(skeleton, generated):
     return path_at
 
 
-def make(root, crate, folders):
-    """Folder -> the text of its proof, or what is wrong with its answers. rt is asked for the skeletons, and then for what it
-    generates; meanwhile the proofs below `root` are not there."""
+def ask(root, crate, folders):
+    """Folder -> the skeleton that rt offers for its proof, and the Lts files that it generates. Meanwhile the proofs of these
+    folders, below `root`, are not there."""
     files = {folder: root / "crates" / crate / "proofs" / folder / "Proof.antt" for folder in folders}
     kept = {file: file.read_text() for file in files.values() if file.exists()}
-    with tempfile.TemporaryDirectory() as scratch:
-        def dev(*words):
-            return subprocess.run(["rt", "dev", crate, *words], cwd=root, text=True, stdout=subprocess.PIPE,
-                                  stderr=subprocess.STDOUT, env={**os.environ, "RT_CUT": "0"}).stdout
 
+    def dev(*words):
+        return subprocess.run(["rt", "dev", crate, *words], cwd=root, text=True, stdout=subprocess.PIPE,
+                              stderr=subprocess.STDOUT, env={**os.environ, "RT_CUT": "0"}).stdout
+
+    with tempfile.TemporaryDirectory() as scratch:
         try:
             for file in kept:
                 file.unlink()
@@ -222,15 +225,36 @@ def make(root, crate, folders):
                 file.unlink(missing_ok=True)
             for file, text in kept.items():
                 file.write_text(text)
-        made = {}
-        for folder, file in files.items():
-            try:
-                wrote = Answers(file.with_name("answers.txt").read_text())
-                generated = Path(scratch, "made", f"Rattle.{crate}.proofs", "proofs", folder)
-                made[folder] = fill(offered[file], wrote, paths_in(offered[file], generated))
-            except Wrong as e:
-                made[folder] = e
-        return made
+        made = Path(scratch, "made", f"Rattle.{crate}.proofs", "proofs")
+        return {folder: (offered[file], {lts.stem: lts.read_text() for lts in (made / folder).glob("Lts*.antt")})
+                for folder, file in files.items()}
+
+
+def ask_once(crate, folders):
+    """The same in this repository, asked again only if code or definitions changed; kept in target/, which rt ci removes."""
+    sources = sorted(file for part in ("src", "specs") for file in (ROOT / "crates").glob(f"*/{part}/**/*.*"))
+    state = hashlib.sha256(b"".join(file.read_bytes() for file in sources)).hexdigest()
+    cache = ROOT / "target" / "fill" / f"{crate}.json"
+    known = json.loads(cache.read_text()) if cache.exists() else {}
+    if known.get("state") != state:
+        known = {"state": state}
+    if new := [folder for folder in folders if folder not in known]:
+        known.update(ask(ROOT, crate, new))
+        cache.parent.mkdir(parents=True, exist_ok=True)
+        cache.write_text(json.dumps(known))
+    return {folder: known[folder] for folder in folders}
+
+
+def make(crate, asked):
+    """Folder -> the text of its proof, or what is wrong with its answers."""
+    made = {}
+    for folder, (skeleton, generated) in asked.items():
+        try:
+            wrote = Answers((ROOT / "crates" / crate / "proofs" / folder / "answers.txt").read_text())
+            made[folder] = fill(skeleton, wrote, paths_in(skeleton, generated))
+        except Wrong as e:
+            made[folder] = e
+    return made
 
 
 # ---- the commands
@@ -279,7 +303,7 @@ def check(crates, again):
             shutil.copytree(ROOT, copy, dirs_exist_ok=True, ignore=shutil.ignore_patterns(".git"))
         for crate in crates:
             folder = ROOT / "crates" / crate / "proofs"
-            made = make(Path(copy), crate, proofs_of(crate)) if again and proofs_of(crate) else {}
+            made = make(crate, ask(Path(copy), crate, proofs_of(crate))) if again and proofs_of(crate) else {}
             for file in sorted({*folder.rglob("Proof.antt"), *(folder / name / "Proof.antt" for name in proofs_of(crate))}):
                 proofs += 1
                 try:
@@ -302,7 +326,7 @@ def main(words):
         sys.exit(check(words[1:] or crates, words[0] == "--again"))
     if not words or words[0] not in crates:
         sys.exit(__doc__.strip())
-    for folder, text in make(ROOT, words[0], proofs_of(words[0], words[1:])).items():
+    for folder, text in make(words[0], ask_once(words[0], proofs_of(words[0], words[1:]))).items():
         file = ROOT / "crates" / words[0] / "proofs" / folder / "Proof.antt"
         if isinstance(text, Wrong):
             print(f"{folder}: {text}")

@@ -2,10 +2,10 @@
 use Prim.Native.Nat.{ℕ, zero, suc, _+_, _<_, _≤_}
 use mathlib.Core.Path.{_≡_, refl, sym, ap, _∙_}
 use mathlib.Core.List.{List, [], _∷_}
-use mathlib.Core.Bool.{Bool, true, false, cond, _&&_}
+use mathlib.Core.Bool.{Bool, true, false, cond, _&&_, not}
 use mathlib.Core.Option.{Option, none, some}
 use native.Mathlib.Omega.{arith}
-use lib.ListN.{getD, set}
+use lib.ListN.{set}
 use lib.Dec.{eqb}
 use borrow.Author.Tests.{ltb-true, le-leb, lt-leb, eq-eqb, ne-eqb}
 use Rattle.steps.specs.declared.network_info.NetworkInfo.{NetworkInfo}
@@ -17,7 +17,7 @@ use Rattle.steps.specs.Steps.{Out, putEntry, putAll, message}
 use Rattle.steps.specs.Runs.{Verdict, going, refused, failed, Run, ends, before, onward, heard, Left, leaves}
 use Rattle.steps.proofs.Laws.{and-true}
 use Rattle.steps.proofs.Runs.{onward-go, onward-refused, onward-stop, onward-at, onward-cong, heard-cong, heard-got, heard-none}
-use Rattle.decryption.specs.Decrypt.{withShares, withInput, withEnd, countShares, checkShare, removeFrom, removeInvalidShares, ownShare, startWith, combine, tryWith, startDecryption, tryOutput}
+use Rattle.decryption.specs.Decrypt.{withShares, withInput, withEnd, isSender, countShares, isShareValid, checkShare, removeFrom, removeInvalidShares, ownShare, startWith, combine, tryWith, startDecryption, tryOutput}
 use Rattle.decryption.specs.declared.ThresholdDecrypt.{ThresholdDecrypt}
 use Rattle.decryption.proofs.Ends.{Ends, ends-cond, ends-heard, ends-onward}
 use Rattle.decryption.proofs.Laws.{unset}
@@ -33,12 +33,20 @@ cond-cong false p q = q
 
 -- checking shares leaves what is not a share: P holds of every instance that differs from td in its shares alone
 module _ (P : ThresholdDecrypt → Type 0) (other : (td : ThresholdDecrypt) (s : List ℕ) → P td → P (withShares td s)) where
+  pub valid-keeps : (i : ℕ) (td : ThresholdDecrypt) (p : Tape) → P td → P (isShareValid i td p .state)
+  unfolding isShareValid
+  valid-keeps i td p h =
+      let E : ThresholdDecrypt → Verdict Bool → Type 0 = λ s v. P s in
+      ends-cond E (eqb (td .ciphertext) 0) _ _ h (ends-heard E (askAbout p 10 i) td _ h (λ a b q. h))
+
   check-keeps : (i : ℕ) (td : ThresholdDecrypt) (p : Tape) → P td → P (checkShare i td p .state)
   unfolding checkShare
   check-keeps i td p h =
       let E : ThresholdDecrypt → Verdict (Unit {0}) → Type 0 = λ s v. P s in
-      ends-cond E (eqb (getD (td .shares) i 0) 0) _ _ h
-      (ends-heard E (askAbout p 10 i) td _ h (λ a b q. ends-cond E (eqb a 0) _ _ (other td _ h) h))
+      let k = valid-keeps i td p h in
+      ends-cond E (isSender td i) _ _
+      (ends-onward E (isShareValid i td p) _ (λ e. k) (λ m e. k) (λ valid e. ends-cond E (not valid) _ _ (other _ _ k) k))
+      h
 
   pub remove-keeps : (n i : ℕ) (td : ThresholdDecrypt) (p : Tape) → P td → P (removeFrom n i td p .state)
   unfolding removeFrom
@@ -91,7 +99,7 @@ module _ (net : NetworkInfo) (proposer : ℕ) where
   unfolding startDecryption startWith tryOutput tryWith
   start-onward td p e z =
       rw (e, ne-eqb _ _ z)
-      (onward-cong _ _ _ (λ _ td q. own-cong (tryWith net proposer (ends (going none))) (tryOutput net proposer) (withInput td) q (λ s u. refl)))
+      (onward-cong _ _ _ (λ _ td q. own-cong (tryWith net (ends (going none))) (tryOutput net proposer) (withInput td) q (λ s u. refl)))
 
   -- combining, case by case
   pub try-ended : (td : ThresholdDecrypt) (p : Tape) → td .terminated ≡ true → tryOutput net proposer td p ≡ ends (going none) td p
@@ -107,7 +115,7 @@ module _ (net : NetworkInfo) (proposer : ℕ) where
   try-none td p e h z = rw (e, lt-leb _ _ h, eq-eqb _ _ z)
 
   -- a start while combining combines nothing
-  try-quiet : (k : Does) (td : ThresholdDecrypt) (p : Tape) → td .terminated ≡ true → ends (going none) td p ≡ tryWith net proposer k td p
+  try-quiet : (k : Does) (td : ThresholdDecrypt) (p : Tape) → td .terminated ≡ true → ends (going none) td p ≡ tryWith net k td p
   unfolding tryWith
   try-quiet k td p e = rw e
 
@@ -118,13 +126,13 @@ module _ (net : NetworkInfo) (proposer : ℕ) where
       cond-cong (td .«had_input») refl
       (cond-cong (eqb (td .ciphertext) 0) refl
       (onward-at r _ _
-      (λ _ _. own-cong (ends (going none)) (tryWith net proposer (ends (going none))) (withInput (r .state)) (r .tape)
+      (λ _ _. own-cong (ends (going none)) (tryWith net (ends (going none))) (withInput (r .state)) (r .tape)
       (λ s q. try-quiet (ends (going none)) (withShares (withInput (r .state)) s) q (remove-ended true (withEnd td) p refl)))))
 
   -- COMBINING FIRST MAKES SURE DECRYPTION HAS STARTED
-  pub try-onward : (td : ThresholdDecrypt) (p : Tape) → td .terminated ≡ false → net .«num_faulty» < countShares (td .shares) → (td .ciphertext ≡ 0 → ⊥) → tryOutput net proposer td p ≡ onward (startDecryption net proposer (withEnd td) p) (λ _ td q. combine net proposer td q)
+  pub try-onward : (td : ThresholdDecrypt) (p : Tape) → td .terminated ≡ false → net .«num_faulty» < countShares (td .shares) → (td .ciphertext ≡ 0 → ⊥) → tryOutput net proposer td p ≡ onward (startDecryption net proposer (withEnd td) p) (λ _ td q. combine td q)
   unfolding tryOutput tryWith
-  try-onward td p e h z = rw (e, lt-leb _ _ h, ne-eqb _ _ z) (ap (λ r. onward r (λ _ td q. combine net proposer td q)) (start-ended td p))
+  try-onward td p e h z = rw (e, lt-leb _ _ h, ne-eqb _ _ z) (ap (λ r. onward r (λ _ td q. combine td q)) (start-ended td p))
 
   own-quiet : (td : ThresholdDecrypt) (p : Tape) → Ends Quiet (ownShare net proposer (ends (going none)) td p)
   unfolding ownShare
@@ -141,7 +149,8 @@ module _ (net : NetworkInfo) (proposer : ℕ) where
   -- what a function leaves, from what its calls left
   module _ (td : ThresholdDecrypt) (p : Tape) (o : Out) where
     module _ (d : Left ThresholdDecrypt (Unit {0})) (e : td .«had_input» ≡ false) (z : td .ciphertext ≡ 0 → ⊥) (r : d ≡ leaves o (removeInvalidShares td p)) where
-      pub start-refused : d .verdict ≡ refused → record { state = d .state; verdict = refused; tape = d .tape; out = d .out } ≡ leaves o (startDecryption net proposer td p)
+      pub start-refused : d .verdict ≡ refused → leaves (d .out) (ends {A = Option ℕ} refused (d .state) (d .tape)) ≡ leaves o (startDecryption net proposer td p)
+      unfolding putAll
       start-refused n = rw (start-onward td p e z) (onward-refused d o _ _ r n)
 
       pub start-goes : d .verdict ≡ going tt → leaves (d .out) (ownShare net proposer (tryOutput net proposer) (withInput (d .state)) (d .tape)) ≡ leaves o (startDecryption net proposer td p)
@@ -155,8 +164,8 @@ module _ (net : NetworkInfo) (proposer : ℕ) where
           stops none m = n m
           stops (some b) m = start-quiet td p b (sym (ap (λ x. x .verdict) r) ∙ m)
 
-      pub try-goes : d .verdict ≡ going none → leaves (d .out) (combine net proposer (d .state) (d .tape)) ≡ leaves o (tryOutput net proposer td p)
-      try-goes n = rw (try-onward td p e h z) (onward-go d o _ (λ _ td q. combine net proposer td q) r none n)
+      pub try-goes : d .verdict ≡ going none → leaves (d .out) (combine (d .state) (d .tape)) ≡ leaves o (tryOutput net proposer td p)
+      try-goes n = rw (try-onward td p e h z) (onward-go d o _ (λ _ td q. combine td q) r none n)
 
   -- the own share, case by case
   module _ (try : Does) (td : ThresholdDecrypt) (p : Tape) where
@@ -176,19 +185,19 @@ module _ (net : NetworkInfo) (proposer : ℕ) where
       unfolding putAll
       own-sends a b n o u m = rw (own-heard, heard-got _ x q td _ k a b n, m)
 
-  -- combining, by the answer
-  module _ (td : ThresholdDecrypt) (p : Tape) (x : Answer) (q : Tape) (k : asked x q ≡ ask p 12) where
-    pub combine-refused : x ≡ NoAnswer → combine net proposer td p ≡ ends refused td q
-    unfolding combine
-    combine-refused n = heard-none _ x q td _ k n
+-- combining, by the answer
+module _ (td : ThresholdDecrypt) (p : Tape) (x : Answer) (q : Tape) (k : asked x q ≡ ask p 12) where
+  pub combine-refused : x ≡ NoAnswer → combine td p ≡ ends refused td q
+  unfolding combine
+  combine-refused n = heard-none _ x q td _ k n
 
-    pub combine-failed : (a b : ℕ) → x ≡ Got a b → a ≡ 0 → combine net proposer td p ≡ ends (failed 24) td q
-    unfolding combine
-    combine-failed a b n z = heard-got _ x q td _ k a b n ∙ rw (eq-eqb _ _ z)
+  pub combine-failed : (a b : ℕ) → x ≡ Got a b → a ≡ 0 → combine td p ≡ ends (failed 24) td q
+  unfolding combine
+  combine-failed a b n z = heard-got _ x q td _ k a b n ∙ rw (eq-eqb _ _ z)
 
-    pub combine-plain : (a b : ℕ) → x ≡ Got a b → (a ≡ 0 → ⊥) → combine net proposer td p ≡ ends (going (some b)) td q
-    unfolding combine
-    combine-plain a b n z = heard-got _ x q td _ k a b n ∙ rw (ne-eqb _ _ z)
+  pub combine-plain : (a b : ℕ) → x ≡ Got a b → (a ≡ 0 → ⊥) → combine td p ≡ ends (going (some b)) td q
+  unfolding combine
+  combine-plain a b n z = heard-got _ x q td _ k a b n ∙ rw (ne-eqb _ _ z)
 
 -- each call sets a flag
 pub started-falls : (td : ThresholdDecrypt) (p : Tape) (o : Out) (d : Left ThresholdDecrypt (Unit {0})) (t : ℕ) → unset td ≡ t → td .«had_input» ≡ false → d ≡ leaves o (removeInvalidShares td p) → unset (withInput (d .state)) < t

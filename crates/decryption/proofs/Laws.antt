@@ -3,25 +3,30 @@ use Prim.Native.Nat.{ℕ, suc, _+_, _-_, _<_, _≤_}
 use native.Mathlib.Omega.{arith}
 use mathlib.Core.Path.{_≡_, refl, _∙_}
 use mathlib.Core.List.{List, [], _∷_}
-use mathlib.Core.Bool.{true, false, cond}
+use mathlib.Core.Bool.{true, false, cond, not}
 use mathlib.Core.Option.{none}
 use lib.ListN.{getD, set}
+use lib.Dec.{eqb}
 use borrow.Author.Tests.{eq-eqb, ne-eqb}
 use types.Run.{OneOf, miss}
 use denote.Enum.Declared.{tagOf}
 use Rattle.steps.specs.declared.reader.Answer.{Answer}
 use Rattle.steps.specs.declared.reader.Answer.the-variants.{Got, Refused as NoAnswer}
 use Rattle.steps.specs.Answers.{Tape, asked, askAbout}
-use Rattle.steps.specs.Steps.{Out, putEntry, putAll, fault}
-use Rattle.steps.specs.Runs.{Verdict, going, refused, failed, ends, onward, leaves}
+use Rattle.steps.specs.declared.step.Step.{Step}
+use Rattle.steps.specs.Steps.{Out, out, putEntry, putAll, fault}
+use Rattle.steps.specs.Runs.{Verdict, going, refused, failed, ends, onwardAs, onward, leaves}
 use Rattle.steps.proofs.Runs.{heard-got, heard-none}
-use Rattle.decryption.specs.Outcomes.{checkedVerdict, verdict}
-use Rattle.decryption.specs.Decrypt.{withCiphertext, withShares, countFrom, setCiphertext, checkShare, removeFrom}
+use Rattle.decryption.specs.Outcomes.{checkedVerdict, verdict, leftValid, left, handled}
+use Rattle.decryption.specs.Decrypt.{withCiphertext, withShares, countFrom, setCiphertext, isShareValid, checkShare, removeFrom}
 use Rattle.decryption.specs.declared.ThresholdDecrypt.{ThresholdDecrypt}
+use Rattle.decryption.specs.declared.Validity.{Validity}
+use Rattle.decryption.specs.declared.Validity.the-variants.{Valid, Invalid, Refused as NoneValid}
 use Rattle.decryption.specs.declared.Checked.{Checked}
 use Rattle.decryption.specs.declared.Checked.the-variants.{Done, Refused as NoneChecked}
 use Rattle.decryption.specs.declared.Outcome.{Outcome}
 use Rattle.decryption.specs.declared.Outcome.the-variants.{Nothing, Plaintext, Refused, Decryption}
+use Rattle.decryption.specs.declared.Handled.{Handled}
 use Rattle.decryption.proofs.Checked.{the-type as checked-type}
 use Rattle.decryption.proofs.Outcome.{the-type as outcome-type}
 
@@ -82,24 +87,39 @@ module _ (proposer ciphertext : ℕ) (td : ThresholdDecrypt) (p : Tape) where
     unfolding setCiphertext
     set-verified a b n y = rw (eq-eqb _ _ z) (heard-got _ x q td _ k a b n ∙ rw (ne-eqb _ _ y))
 
--- checking the share of one sender
+-- whether a share is valid
+module _ (sender : ℕ) (td : ThresholdDecrypt) (p : Tape) where
+  pub valid-early : td .ciphertext ≡ 0 → isShareValid sender td p ≡ ends (going true) td p
+  unfolding isShareValid
+  valid-early z = rw (eq-eqb _ _ z)
+
+  module _ (x : Answer) (q : Tape) (k : asked x q ≡ askAbout p 10 sender) (z : td .ciphertext ≡ 0 → ⊥) where
+    pub valid-refused : x ≡ NoAnswer → isShareValid sender td p ≡ ends refused td q
+    unfolding isShareValid
+    valid-refused n = rw (ne-eqb _ _ z) (heard-none _ x q td _ k n)
+
+    pub valid-told : (a b : ℕ) → x ≡ Got a b → isShareValid sender td p ≡ ends (going (not (eqb a 0))) td q
+    unfolding isShareValid
+    valid-told a b n = rw (ne-eqb _ _ z) (heard-got _ x q td _ k a b n)
+
+-- checking the share of one sender, by what is found of it
 module _ (sender : ℕ) (td : ThresholdDecrypt) (p : Tape) where
   pub check-none : getD (td .shares) sender 0 ≡ 0 → checkShare sender td p ≡ ends (going tt) td p
   unfolding checkShare
   check-none z = rw (eq-eqb _ _ z)
 
-  module _ (x : Answer) (q : Tape) (k : asked x q ≡ askAbout p 10 sender) (z : getD (td .shares) sender 0 ≡ 0 → ⊥) where
-    pub check-refused : x ≡ NoAnswer → checkShare sender td p ≡ ends refused td q
-    unfolding checkShare
-    check-refused n = rw (ne-eqb _ _ z) (heard-none _ x q td _ k n)
+  module _ (r : Validity) (q : Tape) (v : leftValid td r q ≡ isShareValid sender td p) (z : getD (td .shares) sender 0 ≡ 0 → ⊥) where
+    pub check-refused : r ≡ NoneValid → checkShare sender td p ≡ ends refused td q
+    unfolding checkShare onward onwardAs
+    check-refused n = rw (ne-eqb _ _ z, ← v, n)
 
-    pub check-valid : (a b : ℕ) → x ≡ Got a b → (a ≡ 0 → ⊥) → checkShare sender td p ≡ ends (going tt) td q
-    unfolding checkShare
-    check-valid a b n y = rw (ne-eqb _ _ z) (heard-got _ x q td _ k a b n ∙ rw (ne-eqb _ _ y))
+    pub check-valid : r ≡ Valid → checkShare sender td p ≡ ends (going tt) td q
+    unfolding checkShare onward onwardAs
+    check-valid n = rw (ne-eqb _ _ z, ← v, n)
 
-    pub check-invalid : (a b : ℕ) → x ≡ Got a b → a ≡ 0 → (o u : Out) → u ≡ putEntry o (fault 7 sender 0) → leaves u (ends (going tt) (withShares td (set (td .shares) sender 0)) q) ≡ leaves o (checkShare sender td p)
-    unfolding checkShare putAll
-    check-invalid a b n y o u m = rw (ne-eqb _ _ z, heard-got _ x q td _ k a b n, eq-eqb _ _ y, m)
+    pub check-invalid : r ≡ Invalid → (o u : Out) → u ≡ putEntry o (fault 7 sender 0) → leaves u (ends (going tt) (withShares td (set (td .shares) sender 0)) q) ≡ leaves o (checkShare sender td p)
+    unfolding checkShare onward onwardAs putAll
+    check-invalid n o u m = rw (ne-eqb _ _ z, ← v, n, m)
 
 -- checking one sender more
 pub remove-step : (i : ℕ) (td : ThresholdDecrypt) (p : Tape) → i < 16 → removeFrom (16 - i) i td p ≡ onward (checkShare i td p) (λ _ td q. removeFrom (16 - (i + 1)) (i + 1) td q)
@@ -113,3 +133,8 @@ unfolding removeFrom
 remove-done i td p h =
     let e : 16 - i ≡ 0 = omega arith in
     rw e
+
+-- what is handed back at once leaves a run that ends there
+pub hands : {r : Handled} {td : ThresholdDecrypt} {o : Outcome} {s : Step} {p : Tape} {w : List ℕ} → r ≡ handled td o s → left r p w ≡ leaves (out s w) (ends (verdict o) td p)
+unfolding putAll
+hands e = rw e

@@ -1,16 +1,16 @@
 -- Threshold decryption keeps its ciphertext and shares below 2^32, and so is a plaintext. Assumes nothing.
 use Prim.Native.Nat.{ℕ, zero, suc, _+_, _<_}
 use mathlib.Core.Path.{refl}
-use mathlib.Core.Bool.{_&&_}
+use mathlib.Core.Bool.{_&&_, not}
 use native.Mathlib.Omega.{arith}
-use lib.ListN.{getD, set}
+use lib.ListN.{set}
 use lib.Dec.{leb, eqb}
 use Rattle.steps.specs.declared.network_info.NetworkInfo.{NetworkInfo}
 use Rattle.steps.specs.Network.{isValidator}
 use Rattle.steps.specs.Answers.{Tape}
 use Rattle.steps.specs.Runs.{Run}
 use Rattle.steps.proofs.Ranges.{AllSmall, Kept, Any, SmallOption, kept-going, kept-failed, kept-before, kept-cond, kept-ask, kept-about, kept-onward, Below, below-set, below-zeros}
-use Rattle.decryption.specs.Decrypt.{new, withShares, withInput, withEnd, countShares, setCiphertext, checkShare, removeFrom, ownShare, startWith, combine, tryWith, startDecryption, tryOutput, storeShare, handleMessage}
+use Rattle.decryption.specs.Decrypt.{new, withShares, withInput, withEnd, isSome, isSender, countShares, setCiphertext, isShareValid, checkShare, removeFrom, ownShare, startWith, combine, tryWith, startDecryption, tryOutput, storeShare, handleMessage}
 use Rattle.decryption.specs.declared.ThresholdDecrypt.{ThresholdDecrypt}
 use Rattle.decryption.proofs.Cycle.{Does}
 
@@ -42,19 +42,25 @@ end-ok td h = record { ciphertext = h .ciphertext; shares = h .shares }
 pub set-safe : (proposer ciphertext : ℕ) → ciphertext < 4294967296 → Safe Any (setCiphertext proposer ciphertext)
 unfolding setCiphertext
 set-safe proposer ciphertext l td p h o =
-    kept-cond (eqb (td .ciphertext) 0) _ _
+    kept-cond (isSome (td .ciphertext)) _ _ (λ _. kept-failed h o)
     (λ _. kept-about p 9 proposer td _ refl h o (λ a b q _ o.
     kept-cond (eqb a 0) _ _ (λ _. kept-going h o tt) (λ _. kept-going (record { ciphertext = l; shares = h .shares }) o tt)))
-    (λ _. kept-failed h o)
+
+valid-safe : (i : ℕ) → Safe Any (isShareValid i)
+unfolding isShareValid
+valid-safe i td p h o =
+    kept-cond (eqb (td .ciphertext) 0) _ _ (λ _. kept-going h o tt)
+    (λ _. kept-about p 10 i td _ refl h o (λ a b q _ o. kept-going h o tt))
 
 check-safe : (i : ℕ) → Safe Any (checkShare i)
 unfolding checkShare
 check-safe i td p h o =
-    kept-cond (eqb (getD (td .shares) i 0) 0) _ _ (λ _. kept-going h o tt)
-    (λ _. kept-about p 10 i td _ refl h o (λ a b q _ o.
-    kept-cond (eqb a 0) _ _
+    kept-cond (isSender td i) _ _
+    (λ _. kept-onward _ _ (valid-safe i td p h o) (λ valid td q h o _.
+    kept-cond (not valid) _ _
     (λ _. kept-before (kept-going (share-ok td i 0 h (omega arith)) o tt))
     (λ _. kept-going h o tt)))
+    (λ _. kept-going h o tt)
 
 remove-safe : (n i : ℕ) → Safe Any (removeFrom n i)
 unfolding removeFrom
@@ -76,11 +82,11 @@ module _ (net : NetworkInfo) (proposer : ℕ) where
       (λ _. kept-cond (eqb (td .ciphertext) 0) _ _ (λ _. kept-failed h o)
       (λ _. kept-onward _ _ (remove-safe 16 0 td p h o) (λ _ td q h o _. own-safe k s (withInput td) q (input-ok td h) o)))
 
-  combine-safe : Safe SmallOption (combine net proposer)
+  combine-safe : Safe SmallOption (combine)
   unfolding combine SmallOption
   combine-safe td p h o = kept-ask p 12 td _ refl h o (λ a b q l o. kept-cond (eqb a 0) _ _ (λ _. kept-failed h o) (λ _. kept-going h o l))
 
-  with-try : (k : Does) → Safe SmallOption k → Safe SmallOption (tryWith net proposer k)
+  with-try : (k : Does) → Safe SmallOption k → Safe SmallOption (tryWith net k)
   unfolding tryWith SmallOption
   with-try k s td p h o =
       kept-cond (td .terminated) _ _ (λ _. kept-going h o tt)
@@ -100,13 +106,12 @@ module _ (net : NetworkInfo) (proposer : ℕ) where
   unfolding storeShare SmallOption
   store-safe sender share l td p h o =
       let k = share-ok td sender share h l in
-      kept-cond (eqb (getD (td .shares) sender 0) 0) _ _ (λ _. try-safe _ p k o) (λ _. kept-before (kept-going k o tt))
+      kept-cond (isSender td sender) _ _ (λ _. kept-before (kept-going k o tt)) (λ _. try-safe _ p k o)
 
   -- a share message
   pub handle-safe : (sender share : ℕ) → share < 4294967296 → Safe SmallOption (handleMessage net proposer sender share)
   unfolding handleMessage SmallOption
   handle-safe sender share l td p h o =
       kept-cond (td .terminated) _ _ (λ _. kept-going h o tt)
-      (λ _. kept-cond (eqb (td .ciphertext) 0) _ _ (λ _. store-safe sender share l td p h o)
-      (λ _. kept-about p 10 sender td _ refl h o (λ a b q _ o.
-      kept-cond (eqb a 0) _ _ (λ _. kept-before (kept-going h o tt)) (λ _. store-safe sender share l td q h o))))
+      (λ _. kept-onward _ _ (valid-safe sender td p h o) (λ valid td q h o _.
+      kept-cond (not valid) _ _ (λ _. kept-before (kept-going h o tt)) (λ _. store-safe sender share l td q h o)))

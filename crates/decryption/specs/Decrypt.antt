@@ -29,9 +29,13 @@ withInput td = record { ciphertext = td .ciphertext; shares = td .shares; «had_
 abbrev pub withEnd : ThresholdDecrypt → ThresholdDecrypt
 withEnd td = record { ciphertext = td .ciphertext; shares = td .shares; «had_input» = td .«had_input»; terminated = true }
 
+-- whether a handle is there; 0 stands for none
+abbrev pub isSome : ℕ → Bool
+isSome h = not (eqb h 0)
+
 -- whether a node is among the senders of shares
 abbrev pub isSender : ThresholdDecrypt → ℕ → Bool
-isSender td sender = not (eqb (getD (td .shares) sender 0) 0)
+isSender td sender = isSome (getD (td .shares) sender 0)
 
 -- the shares of the next n senders, from sender i on
 unfoldable pub countFrom : ℕ → ℕ → List ℕ → ℕ
@@ -41,22 +45,28 @@ countFrom (suc n) i s = cond (eqb (getD s i 0) 0) 0 1 + countFrom n (i + 1) s
 abbrev pub countShares : List ℕ → ℕ
 countShares s = countFrom 16 0 s
 
--- true where the ciphertext is set, false where it does not verify. A second one fails before it is verified
+-- true where the ciphertext is set, false where it does not verify. A second one fails before it is verified; 25 `MultipleInputs`
 unfoldable pub setCiphertext : ℕ → ℕ → ThresholdDecrypt → Tape → Run ThresholdDecrypt Bool
 setCiphertext proposer ciphertext td p =
-    cond (eqb (td .ciphertext) 0)
+    cond (isSome (td .ciphertext)) (ends (failed 25) td p)
     (heard (askAbout p 9 proposer) td (λ a b q.
     cond (eqb a 0) (ends (going false) td q) (ends (going true) (withCiphertext td ciphertext) q)))
-    (ends (failed 25) td p)
 
--- the share of one sender is asked about, and removed with fault 7 if it is invalid
+-- true where the share of this sender is valid, or where there is no ciphertext yet to ask about it
+unfoldable pub isShareValid : ℕ → ThresholdDecrypt → Tape → Run ThresholdDecrypt Bool
+isShareValid sender td p =
+    cond (eqb (td .ciphertext) 0) (ends (going true) td p)
+    (heard (askAbout p 10 sender) td (λ a b q. ends (going (not (eqb a 0))) td q))
+
+-- the share of one sender, if there is one, is removed with fault 7 if it is invalid
 unfoldable pub checkShare : ℕ → ThresholdDecrypt → Tape → Run ThresholdDecrypt (Unit {0})
 checkShare sender td p =
-    cond (eqb (getD (td .shares) sender 0) 0) (ends (going tt) td p)
-    (heard (askAbout p 10 sender) td (λ a b q.
-    cond (eqb a 0)
+    cond (isSender td sender)
+    (onward (isShareValid sender td p) (λ valid td q.
+    cond (not valid)
     (before (fault 7 sender 0 ∷ []) (ends (going tt) (withShares td (set (td .shares) sender 0)) q))
     (ends (going tt) td q)))
+    (ends (going tt) td p)
 
 -- the next n senders, from sender i on
 unfoldable pub removeFrom : ℕ → ℕ → ThresholdDecrypt → Tape → Run ThresholdDecrypt (Unit {0})
@@ -66,6 +76,10 @@ removeFrom (suc n) i td p = onward (checkShare i td p) (λ _ td q. removeFrom n 
 -- "Shares before the ciphertext are stored unchecked, then checked in sender order."
 abbrev pub removeInvalidShares : ThresholdDecrypt → Tape → Run ThresholdDecrypt (Unit {0})
 removeInvalidShares td p = removeFrom 16 0 td p
+
+-- the shares are combined; 24 `Decryption`
+unfoldable pub combine : ThresholdDecrypt → Tape → Run ThresholdDecrypt (Option ℕ)
+combine td p = heard (ask p 12) td (λ a b q. cond (eqb a 0) (ends (failed 24) td q) (ends (going (some b)) td q))
 
 -- "Starting decryption tries to combine, and combining first makes sure decryption has started." Each is given for any behaviour of the other
 module _ (net : NetworkInfo) (proposer : ℕ) where
@@ -84,36 +98,32 @@ module _ (net : NetworkInfo) (proposer : ℕ) where
       (cond (eqb (td .ciphertext) 0) (ends (failed 24) td p)
       (onward (removeInvalidShares td p) (λ _ td q. ownShare try (withInput td) q)))
 
-  -- the shares are combined; 24 `Decryption`
-  unfoldable pub combine : ThresholdDecrypt → Tape → Run ThresholdDecrypt (Option ℕ)
-  combine td p = heard (ask p 12) td (λ a b q. cond (eqb a 0) (ends (failed 24) td q) (ends (going (some b)) td q))
+-- "Combining wants a ciphertext and more than f shares."
+unfoldable pub tryWith : NetworkInfo → (ThresholdDecrypt → Tape → Run ThresholdDecrypt (Option ℕ)) → ThresholdDecrypt → Tape → Run ThresholdDecrypt (Option ℕ)
+tryWith net start td p =
+    cond (td .terminated) (ends (going none) td p)
+    (cond (leb (countShares (td .shares)) (net .«num_faulty»)) (ends (going none) td p)
+    (cond (eqb (td .ciphertext) 0) (ends (going none) td p)
+    (onward (start (withEnd td) p) (λ _ td q. combine td q))))
 
-  -- "Combining wants a ciphertext and more than f shares."
-  unfoldable pub tryWith : (ThresholdDecrypt → Tape → Run ThresholdDecrypt (Option ℕ)) → ThresholdDecrypt → Tape → Run ThresholdDecrypt (Option ℕ)
-  tryWith start td p =
-      cond (td .terminated) (ends (going none) td p)
-      (cond (leb (countShares (td .shares)) (net .«num_faulty»)) (ends (going none) td p)
-      (cond (eqb (td .ciphertext) 0) (ends (going none) td p)
-      (onward (start (withEnd td) p) (λ _ td q. combine td q))))
-
+module _ (net : NetworkInfo) (proposer : ℕ) where
   -- once each has set its flag the other ends at its first test; the laws `start-onward` and `try-onward` say that each goes on with the other
   unfoldable pub startDecryption : ThresholdDecrypt → Tape → Run ThresholdDecrypt (Option ℕ)
-  startDecryption td p = startWith (tryWith (ends (going none))) td p
+  startDecryption td p = startWith net proposer (tryWith net (ends (going none))) td p
 
   unfoldable pub tryOutput : ThresholdDecrypt → Tape → Run ThresholdDecrypt (Option ℕ)
-  tryOutput td p = tryWith (startWith (ends (going none))) td p
+  tryOutput td p = tryWith net (startWith net proposer (ends (going none))) td p
 
   -- a share is kept. A second one of a sender overwrites the first, is fault 6, and nothing is combined
   unfoldable pub storeShare : ℕ → ℕ → ThresholdDecrypt → Tape → Run ThresholdDecrypt (Option ℕ)
   storeShare sender share td p =
-      cond (eqb (getD (td .shares) sender 0) 0)
-      (tryOutput (withShares td (set (td .shares) sender share)) p)
+      cond (isSender td sender)
       (before (fault 6 sender 0 ∷ []) (ends (going none) (withShares td (set (td .shares) sender share)) p))
+      (tryOutput (withShares td (set (td .shares) sender share)) p)
 
-  -- a share is checked once there is a ciphertext: fault 7 where it is invalid, and an earlier share of the sender stays
+  -- fault 7 where the share is invalid, and an earlier one of the sender stays
   unfoldable pub handleMessage : ℕ → ℕ → ThresholdDecrypt → Tape → Run ThresholdDecrypt (Option ℕ)
   handleMessage sender share td p =
       cond (td .terminated) (ends (going none) td p)
-      (cond (eqb (td .ciphertext) 0) (storeShare sender share td p)
-      (heard (askAbout p 10 sender) td (λ a b q.
-      cond (eqb a 0) (before (fault 7 sender 0 ∷ []) (ends (going none) td q)) (storeShare sender share td q))))
+      (onward (isShareValid sender td p) (λ valid td q.
+      cond (not valid) (before (fault 7 sender 0 ∷ []) (ends (going none) td q)) (storeShare sender share td q)))

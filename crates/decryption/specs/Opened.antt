@@ -4,6 +4,6 @@ use Rattle.decryption.specs.Decrypt
 
 unfoldable pub opened : Unit {0}
 unfolding StepsOpened.opened
-    Decrypt.countFrom Decrypt.setCiphertext Decrypt.checkShare Decrypt.removeFrom Decrypt.ownShare Decrypt.startWith
+    Decrypt.countFrom Decrypt.setCiphertext Decrypt.isShareValid Decrypt.checkShare Decrypt.removeFrom Decrypt.ownShare Decrypt.startWith
     Decrypt.combine Decrypt.tryWith Decrypt.startDecryption Decrypt.tryOutput Decrypt.storeShare Decrypt.handleMessage
 opened = tt

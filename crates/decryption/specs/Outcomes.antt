@@ -1,15 +1,18 @@
 -- What each enum of threshold decryption stands for, with document 01's number, and what its functions leave.
 use Prim.Native.Nat.{ℕ}
-use mathlib.Core.List.{List, []}
+use mathlib.Core.List.{List}
 use mathlib.Core.Bool.{Bool, true, false}
 use mathlib.Core.Option.{Option, none, some}
 use Rattle.steps.specs.Answers.{Tape}
+use Rattle.steps.specs.declared.step.Step.{Step}
 use Rattle.steps.specs.Steps.{out}
-use Rattle.steps.specs.Runs.{Verdict, going, refused, failed, Run, Left}
+use Rattle.steps.specs.Runs.{Verdict, going, refused, failed, Run, ends, Left}
 use Rattle.decryption.specs.declared.ThresholdDecrypt.{ThresholdDecrypt}
-use Rattle.decryption.specs.declared.Ciphertext.{Ciphertext}
-use Rattle.decryption.specs.declared.Ciphertext.the-variants.{Set, Invalid, MultipleInputs, Refused as NoneSet}
-use Rattle.decryption.specs.declared.Input.{Input}
+use Rattle.decryption.specs.declared.SetOutcome.{SetOutcome}
+use Rattle.decryption.specs.declared.SetOutcome.the-variants.{Set, Invalid as NotSet, MultipleInputs, Refused as NoneSet}
+use Rattle.decryption.specs.declared.SetCiphertext.{SetCiphertext}
+use Rattle.decryption.specs.declared.Validity.{Validity}
+use Rattle.decryption.specs.declared.Validity.the-variants.{Valid, Invalid, Refused as NoneValid}
 use Rattle.decryption.specs.declared.Checked.{Checked}
 use Rattle.decryption.specs.declared.Checked.the-variants.{Done, Refused as NoneChecked}
 use Rattle.decryption.specs.declared.Removed.{Removed}
@@ -18,11 +21,16 @@ use Rattle.decryption.specs.declared.Outcome.the-variants.{Nothing, Plai
 use Rattle.decryption.specs.declared.Handled.{Handled}
 
 -- the ciphertext is set (true) or does not verify (false); 25 `MultipleInputs`
-abbrev pub setVerdict : Ciphertext → Verdict Bool
+abbrev pub setVerdict : SetOutcome → Verdict Bool
 setVerdict Set = going true
-setVerdict Invalid = going false
+setVerdict NotSet = going false
 setVerdict MultipleInputs = failed 25
 setVerdict NoneSet = refused
+
+abbrev pub validVerdict : Validity → Verdict Bool
+validVerdict Valid = going true
+validVerdict Invalid = going false
+validVerdict NoneValid = refused
 
 abbrev pub checkedVerdict : Checked → Verdict (Unit {0})
 checkedVerdict Done = going tt
@@ -35,12 +43,20 @@ verdict (Plaintext h) = going (some h)
 verdict Refused = refused
 verdict Decryption = failed 24
 
--- `set_ciphertext` writes nothing, so that its run has no entries
-abbrev pub leftSet : Input → Tape → Run ThresholdDecrypt Bool
-leftSet r p = record { state = r .td; verdict = setVerdict (r .outcome); tape = p; log = [] }
+-- `set_ciphertext` and `is_share_valid` write nothing, so that their runs have no entries
+abbrev pub leftSet : SetCiphertext → Tape → Run ThresholdDecrypt Bool
+leftSet r p = ends (setVerdict (r .outcome)) (r .td) p
+
+-- and `is_share_valid` keeps the instance
+abbrev pub leftValid : ThresholdDecrypt → Validity → Tape → Run ThresholdDecrypt Bool
+leftValid td r p = ends (validVerdict r) td p
 
 abbrev pub leftChecked : Removed → Tape → List ℕ → Left ThresholdDecrypt (Unit {0})
 leftChecked r p w = record { state = r .td; verdict = checkedVerdict (r .outcome); tape = p; out = out (r .step) w }
 
 abbrev pub left : Handled → Tape → List ℕ → Left ThresholdDecrypt (Option ℕ)
 left r p w = record { state = r .td; verdict = verdict (r .outcome); tape = p; out = out (r .step) w }
+
+-- the result with these parts
+abbrev pub handled : ThresholdDecrypt → Outcome → Step → Handled
+handled td o s = record { td = td; outcome = o; step = s }

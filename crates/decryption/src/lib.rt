@@ -8,8 +8,8 @@ ghost use Rattle.steps.specs.Network.{Network};
 ghost use Rattle.steps.specs.Answers.{tapeAt};
 ghost use Rattle.steps.specs.Steps.{out};
 ghost use Rattle.steps.specs.Runs.{leaves};
-ghost use Rattle.decryption.specs.Outcomes.{leftSet, leftChecked, left};
-ghost use Rattle.decryption.specs.Decrypt.{new, isSender, countShares, setCiphertext, checkShare, removeInvalidShares, startDecryption, tryOutput, storeShare, handleMessage};
+ghost use Rattle.decryption.specs.Outcomes.{leftSet, leftValid, leftChecked, left, handled};
+ghost use Rattle.decryption.specs.Decrypt.{new, isSender, countShares, setCiphertext, isShareValid, checkShare, removeInvalidShares, startDecryption, tryOutput, storeShare, handleMessage};
 use steps::network_info::NetworkInfo;
 use steps::reader::Answer;
 use steps::step::Step;
@@ -25,16 +25,23 @@ pub struct ThresholdDecrypt {
 }
 
 // What `set_ciphertext` comes to. `Invalid` is the caller's fault 4.
-pub enum Ciphertext {
+pub enum SetOutcome {
     Set,
     Invalid,
     MultipleInputs,
     Refused,
 }
 
-pub struct Input {
+pub struct SetCiphertext {
     pub td: ThresholdDecrypt,
-    pub outcome: Ciphertext,
+    pub outcome: SetOutcome,
+}
+
+// What asking about a share comes to.
+pub enum Validity {
+    Valid,
+    Invalid,
+    Refused,
 }
 
 // What checking shares comes to.
@@ -106,34 +113,54 @@ impl ThresholdDecrypt {
         ciphertext: u64,
         answers: &[u64],
         place: &mut usize,
-    ) -> Input
-        ensures { λ r. ⌜ leftSet r (tapeAt (now (answers .entry)) (now (place .exit))) ≡ setCiphertext proposer ciphertext self (tapeAt (now (answers .entry)) (now (place .entry))) ⌝ }
+    ) -> SetCiphertext
+        ensures { λ r. ⌜ leftSet r (tapeAt (now (answers .entry)) (now (place .exit)))
+            ≡ setCiphertext proposer ciphertext self (tapeAt (now (answers .entry)) (now (place .entry))) ⌝ }
     {
         if self.ciphertext != 0 {
-            return Input {
+            return SetCiphertext {
                 td: self,
-                outcome: Ciphertext::MultipleInputs,
+                outcome: SetOutcome::MultipleInputs,
             };
         }
         match steps::reader::ask_about(answers, place, 9, proposer) {
             Answer::Got { a, b: _ } => {
                 if a == 0 {
-                    return Input {
+                    return SetCiphertext {
                         td: self,
-                        outcome: Ciphertext::Invalid,
+                        outcome: SetOutcome::Invalid,
                     };
                 }
                 let mut td = self;
                 td.ciphertext = ciphertext;
-                Input {
+                SetCiphertext {
                     td,
-                    outcome: Ciphertext::Set,
+                    outcome: SetOutcome::Set,
                 }
             }
-            Answer::Refused => Input {
+            Answer::Refused => SetCiphertext {
                 td: self,
-                outcome: Ciphertext::Refused,
+                outcome: SetOutcome::Refused,
             },
+        }
+    }
+
+    // Whether the share of this sender is valid. It is asked about once there is a ciphertext.
+    fn is_share_valid(self, sender: usize, answers: &[u64], place: &mut usize) -> Validity
+        ensures { λ r. ⌜ leftValid self r (tapeAt (now (answers .entry)) (now (place .exit)))
+            ≡ isShareValid sender self (tapeAt (now (answers .entry)) (now (place .entry))) ⌝ }
+    {
+        if self.ciphertext == 0 {
+            return Validity::Valid;
+        }
+        match steps::reader::ask_about(answers, place, 10, sender as u64) {
+            Answer::Got { a, b: _ } => {
+                if a == 0 {
+                    return Validity::Invalid;
+                }
+                Validity::Valid
+            }
+            Answer::Refused => Validity::Refused,
         }
     }
 
@@ -147,7 +174,8 @@ impl ThresholdDecrypt {
         words: &mut [u64],
     ) -> Removed
         requires { ⌜ sender < 16 ⌝ }
-        ensures { λ r. ⌜ leftChecked r (tapeAt (now (answers .entry)) (now (place .exit))) (now (words .exit)) ≡ leaves (out step (now (words .entry))) (checkShare sender self (tapeAt (now (answers .entry)) (now (place .entry)))) ⌝ }
+        ensures { λ r. ⌜ leftChecked r (tapeAt (now (answers .entry)) (now (place .exit))) (now (words .exit))
+            ≡ leaves (out step (now (words .entry))) (checkShare sender self (tapeAt (now (answers .entry)) (now (place .entry)))) ⌝ }
     {
         let mut td = self;
         if td.shares[sender] == 0 {
@@ -157,15 +185,13 @@ impl ThresholdDecrypt {
                 step,
             };
         }
-        match steps::reader::ask_about(answers, place, 10, sender as u64) {
-            Answer::Got { a, b: _ } => {
-                if a != 0 {
-                    return Removed {
-                        td,
-                        outcome: Checked::Done,
-                        step,
-                    };
-                }
+        match td.is_share_valid(sender, answers, place) {
+            Validity::Valid => Removed {
+                td,
+                outcome: Checked::Done,
+                step,
+            },
+            Validity::Invalid => {
                 td.shares[sender] = 0;
                 let faulted = step.fault(words, 7, sender as u64, 0);
                 Removed {
@@ -174,7 +200,7 @@ impl ThresholdDecrypt {
                     step: faulted,
                 }
             }
-            Answer::Refused => Removed {
+            Validity::Refused => Removed {
                 td,
                 outcome: Checked::Refused,
                 step,
@@ -190,7 +216,8 @@ impl ThresholdDecrypt {
         step: Step,
         words: &mut [u64],
     ) -> Removed
-        ensures { λ r. ⌜ leftChecked r (tapeAt (now (answers .entry)) (now (place .exit))) (now (words .exit)) ≡ leaves (out step (now (words .entry))) (removeInvalidShares self (tapeAt (now (answers .entry)) (now (place .entry)))) ⌝ }
+        ensures { λ r. ⌜ leftChecked r (tapeAt (now (answers .entry)) (now (place .exit))) (now (words .exit))
+            ≡ leaves (out step (now (words .entry))) (removeInvalidShares self (tapeAt (now (answers .entry)) (now (place .entry)))) ⌝ }
     {
         let mut td = self;
         let mut s = step;
@@ -212,6 +239,17 @@ impl ThresholdDecrypt {
         }
     }
 
+    // The result with these parts.
+    fn handled(self, outcome: Outcome, step: Step) -> Handled
+        ensures { λ r. ⌜ r ≡ handled self outcome step ⌝ }
+    {
+        Handled {
+            td: self,
+            outcome,
+            step,
+        }
+    }
+
     // Sends the own share, and tries to combine.
     pub fn start_decryption(
         self,
@@ -223,32 +261,21 @@ impl ThresholdDecrypt {
         words: &mut [u64],
     ) -> Handled
         requires { ⌜ Network net ⌝ }
-        ensures { λ r. ⌜ left r (tapeAt (now (answers .entry)) (now (place .exit))) (now (words .exit)) ≡ leaves (out step (now (words .entry))) (startDecryption net proposer self (tapeAt (now (answers .entry)) (now (place .entry)))) ⌝ }
+        ensures { λ r. ⌜ left r (tapeAt (now (answers .entry)) (now (place .exit))) (now (words .exit))
+            ≡ leaves (out step (now (words .entry))) (startDecryption net proposer self (tapeAt (now (answers .entry)) (now (place .entry)))) ⌝ }
     {
         if self.had_input {
-            return Handled {
-                td: self,
-                outcome: Outcome::Nothing,
-                step,
-            };
+            return self.handled(Outcome::Nothing, step);
         }
         if self.ciphertext == 0 {
-            return Handled {
-                td: self,
-                outcome: Outcome::Decryption,
-                step,
-            };
+            return self.handled(Outcome::Decryption, step);
         }
         let removed = self.remove_invalid_shares(answers, place, step, words);
         let mut td = removed.td;
         let done = removed.step;
         let outcome = removed.outcome;
         let Checked::Done = outcome else {
-            return Handled {
-                td,
-                outcome: Outcome::Refused,
-                step: done,
-            };
+            return td.handled(Outcome::Refused, done);
         };
         td.had_input = true;
         if !(net.is_validator() & net.has_key) {
@@ -261,11 +288,7 @@ impl ThresholdDecrypt {
                 td.shares[own] = b;
                 td.try_output(net, proposer, answers, place, sent, words)
             }
-            Answer::Refused => Handled {
-                td,
-                outcome: Outcome::Refused,
-                step: done,
-            },
+            Answer::Refused => td.handled(Outcome::Refused, done),
         }
     }
 
@@ -280,29 +303,18 @@ impl ThresholdDecrypt {
         words: &mut [u64],
     ) -> Handled
         requires { ⌜ Network net ⌝ }
-        ensures { λ r. ⌜ left r (tapeAt (now (answers .entry)) (now (place .exit))) (now (words .exit)) ≡ leaves (out step (now (words .entry))) (tryOutput net proposer self (tapeAt (now (answers .entry)) (now (place .entry)))) ⌝ }
+        ensures { λ r. ⌜ left r (tapeAt (now (answers .entry)) (now (place .exit))) (now (words .exit))
+            ≡ leaves (out step (now (words .entry))) (tryOutput net proposer self (tapeAt (now (answers .entry)) (now (place .entry)))) ⌝ }
     {
         if self.terminated {
-            return Handled {
-                td: self,
-                outcome: Outcome::Nothing,
-                step,
-            };
+            return self.handled(Outcome::Nothing, step);
         }
         let shares = self.shares;
         if count(shares) <= net.num_faulty {
-            return Handled {
-                td: self,
-                outcome: Outcome::Nothing,
-                step,
-            };
+            return self.handled(Outcome::Nothing, step);
         }
         if self.ciphertext == 0 {
-            return Handled {
-                td: self,
-                outcome: Outcome::Nothing,
-                step,
-            };
+            return self.handled(Outcome::Nothing, step);
         }
         let mut td = self;
         td.terminated = true;
@@ -316,23 +328,11 @@ impl ThresholdDecrypt {
         match steps::reader::ask(answers, place, 12) {
             Answer::Got { a, b } => {
                 if a == 0 {
-                    return Handled {
-                        td: last,
-                        outcome: Outcome::Decryption,
-                        step: done,
-                    };
+                    return last.handled(Outcome::Decryption, done);
                 }
-                Handled {
-                    td: last,
-                    outcome: Outcome::Plaintext(b),
-                    step: done,
-                }
+                last.handled(Outcome::Plaintext(b), done)
             }
-            Answer::Refused => Handled {
-                td: last,
-                outcome: Outcome::Refused,
-                step: done,
-            },
+            Answer::Refused => last.handled(Outcome::Refused, done),
         }
     }
 
@@ -349,18 +349,15 @@ impl ThresholdDecrypt {
         words: &mut [u64],
     ) -> Handled
         requires { ⌜ Network net × (sender < net .«num_nodes») ⌝ }
-        ensures { λ r. ⌜ left r (tapeAt (now (answers .entry)) (now (place .exit))) (now (words .exit)) ≡ leaves (out step (now (words .entry))) (storeShare net proposer sender share self (tapeAt (now (answers .entry)) (now (place .entry)))) ⌝ }
+        ensures { λ r. ⌜ left r (tapeAt (now (answers .entry)) (now (place .exit))) (now (words .exit))
+            ≡ leaves (out step (now (words .entry))) (storeShare net proposer sender share self (tapeAt (now (answers .entry)) (now (place .entry)))) ⌝ }
     {
         let mut td = self;
         let old = td.shares[sender];
         td.shares[sender] = share;
         if old != 0 {
             let faulted = step.fault(words, 6, sender as u64, 0);
-            return Handled {
-                td,
-                outcome: Outcome::Nothing,
-                step: faulted,
-            };
+            return td.handled(Outcome::Nothing, faulted);
         }
         td.try_output(net, proposer, answers, place, step, words)
     }
@@ -378,35 +375,21 @@ impl ThresholdDecrypt {
         words: &mut [u64],
     ) -> Handled
         requires { ⌜ Network net × (sender < net .«num_nodes») ⌝ }
-        ensures { λ r. ⌜ left r (tapeAt (now (answers .entry)) (now (place .exit))) (now (words .exit)) ≡ leaves (out step (now (words .entry))) (handleMessage net proposer sender share self (tapeAt (now (answers .entry)) (now (place .entry)))) ⌝ }
+        ensures { λ r. ⌜ left r (tapeAt (now (answers .entry)) (now (place .exit))) (now (words .exit))
+            ≡ leaves (out step (now (words .entry))) (handleMessage net proposer sender share self (tapeAt (now (answers .entry)) (now (place .entry)))) ⌝ }
     {
         if self.terminated {
-            return Handled {
-                td: self,
-                outcome: Outcome::Nothing,
-                step,
-            };
+            return self.handled(Outcome::Nothing, step);
         }
-        if self.ciphertext == 0 {
-            return self.store_share(net, proposer, sender, share, answers, place, step, words);
-        }
-        match steps::reader::ask_about(answers, place, 10, sender as u64) {
-            Answer::Got { a, b: _ } => {
-                if a == 0 {
-                    let faulted = step.fault(words, 7, sender as u64, 0);
-                    return Handled {
-                        td: self,
-                        outcome: Outcome::Nothing,
-                        step: faulted,
-                    };
-                }
+        match self.is_share_valid(sender, answers, place) {
+            Validity::Valid => {
                 self.store_share(net, proposer, sender, share, answers, place, step, words)
             }
-            Answer::Refused => Handled {
-                td: self,
-                outcome: Outcome::Refused,
-                step,
-            },
+            Validity::Invalid => {
+                let faulted = step.fault(words, 7, sender as u64, 0);
+                self.handled(Outcome::Nothing, faulted)
+            }
+            Validity::Refused => self.handled(Outcome::Refused, step),
         }
     }
 }

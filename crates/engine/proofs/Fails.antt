@@ -2,7 +2,7 @@
 use Prim.Native.Nat.{ℕ, zero, suc, _+_}
 use mathlib.Core.Path.{_≡_}
 use mathlib.Core.List.{List, []}
-use mathlib.Core.Bool.{Bool, true, false, cond, _&&_, _||_}
+use mathlib.Core.Bool.{Bool, true, false, cond, _&&_, not, _||_}
 use mathlib.Core.Option.{Option}
 use lib.Dec.{eqb, leb, ltb}
 use lib.ListN.{getD}
@@ -16,7 +16,7 @@ use Rattle.steps.specs.Network.{isValidator, numCorrect}
 use Rattle.steps.specs.Answers.{Tape, Asked}
 use Rattle.steps.specs.Runs.{Verdict, going, refused, failed, Run, ends, onwardAs, onward, heardAs, heard}
 use Rattle.decryption.specs.declared.ThresholdDecrypt.{ThresholdDecrypt}
-use Rattle.decryption.specs.Decrypt.{countShares, new, setCiphertext, checkShare, removeFrom, ownShare, startWith, combine, tryWith, startDecryption, tryOutput, storeShare, handleMessage as handleShare}
+use Rattle.decryption.specs.Decrypt.{isSome, isSender, countShares, new, setCiphertext, isShareValid, checkShare, removeFrom, ownShare, startWith, combine, tryWith, startDecryption, tryOutput, storeShare, handleMessage as handleShare}
 use Rattle.subset.specs.declared.ProposalState.{ProposalState}
 use Rattle.subset.specs.Words.{isDecided, loadProposal}
 use Rattle.subset.specs.Proposal.{Moved, asksAgreement, asksBroadcast, afterBroadcast, instanceAnswer, handleAgreement, voteTrue, afterValue, handleBroadcast}
@@ -65,11 +65,16 @@ module _ {S A : Type 0} {ok : ℕ → Bool} where
 
 -- THRESHOLD DECRYPTION fails with 24, and with 25 where a ciphertext is set
 module _ (ok : ℕ → Bool) (ok-24 : ok 24 ≡ true) where
+  only-valid : (sender : ℕ) (td : ThresholdDecrypt) (p : Tape) → Only ok (isShareValid sender td p)
+  unfolding isShareValid
+  only-valid sender td p = only-cond (eqb (td .ciphertext) 0) (record { fails = tt }) (only-heard _ _ (λ a b q. record { fails = tt }))
+
   only-check : (sender : ℕ) (td : ThresholdDecrypt) (p : Tape) → Only ok (checkShare sender td p)
   unfolding checkShare
   only-check sender td p =
-      only-cond (eqb (getD (td .shares) sender 0) 0) (record { fails = tt }) (only-heard _ _ (λ a b q.
-      only-cond (eqb a 0) (record { fails = tt }) (record { fails = tt })))
+      only-cond (isSender td sender)
+      (only-onward _ (only-valid sender td p) (λ valid td q. only-cond (not valid) (record { fails = tt }) (record { fails = tt })))
+      (record { fails = tt })
 
   only-remove : (m i : ℕ) (td : ThresholdDecrypt) (p : Tape) → Only ok (removeFrom m i td p)
   unfolding removeFrom
@@ -93,12 +98,12 @@ module _ (ok : ℕ → Bool) (ok-24 : ok 24 ≡ true) where
         (only-cond (eqb (td .ciphertext) 0) (record { fails = ok-24 })
         (only-onward _ (only-remove 16 0 td p) (λ _ td q. only-own try h _ q)))
 
-    only-combine : (td : ThresholdDecrypt) (p : Tape) → Only ok (combine net proposer td p)
+    only-combine : (td : ThresholdDecrypt) (p : Tape) → Only ok (combine td p)
     unfolding combine
     only-combine td p = only-heard _ _ (λ a b q. only-cond (eqb a 0) (record { fails = ok-24 }) (record { fails = tt }))
 
     only-try-with : (start : ThresholdDecrypt → Tape → Run ThresholdDecrypt (Option ℕ)) → ((td : ThresholdDecrypt) (p : Tape) → Only ok (start td p))
-        → (td : ThresholdDecrypt) (p : Tape) → Only ok (tryWith net proposer start td p)
+        → (td : ThresholdDecrypt) (p : Tape) → Only ok (tryWith net start td p)
     unfolding tryWith
     only-try-with start h td p =
         only-cond (td .terminated) (record { fails = tt })
@@ -116,21 +121,19 @@ module _ (ok : ℕ → Bool) (ok-24 : ok 24 ≡ true) where
 
     pub only-store : (sender share : ℕ) (td : ThresholdDecrypt) (p : Tape) → Only ok (storeShare net proposer sender share td p)
     unfolding storeShare
-    only-store sender share td p = only-cond (eqb (getD (td .shares) sender 0) 0) (only-try _ p) (record { fails = tt })
+    only-store sender share td p = only-cond (isSender td sender) (record { fails = tt }) (only-try _ p)
 
     pub only-share : (sender share : ℕ) (td : ThresholdDecrypt) (p : Tape) → Only ok (handleShare net proposer sender share td p)
     unfolding handleShare
     only-share sender share td p =
         only-cond (td .terminated) (record { fails = tt })
-        (only-cond (eqb (td .ciphertext) 0) (only-store sender share td p)
-        (only-heard _ _ (λ a b q. only-cond (eqb a 0) (record { fails = tt }) (only-store sender share td q))))
+        (only-onward _ (only-valid sender td p) (λ valid td q. only-cond (not valid) (record { fails = tt }) (only-store sender share td q)))
 
 pub only-ciphertext : (ok : ℕ → Bool) → ok 25 ≡ true → (p c : ℕ) (td : ThresholdDecrypt) (t : Tape) → Only ok (setCiphertext p c td t)
 unfolding setCiphertext
 only-ciphertext ok ok-25 p c td t =
-    only-cond (eqb (td .ciphertext) 0)
+    only-cond (isSome (td .ciphertext)) (record { fails = ok-25 })
     (only-heard _ _ (λ a b q. only-cond (eqb a 0) (record { fails = tt }) (record { fails = tt })))
-    (record { fails = ok-25 })
 
 -- THE SUBSET fails with the number that its caller gives
 module _ (ok : ℕ → Bool) (error : ℕ) (ok-error : ok error ≡ true) where

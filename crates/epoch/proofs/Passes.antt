@@ -2,7 +2,7 @@
 use Prim.Native.Nat.{ℕ, zero, suc, _+_, _<_, _≤_}
 use mathlib.Core.Path.{_≡_, refl, _∙_}
 use mathlib.Core.List.{List, [], _∷_}
-use mathlib.Core.Bool.{Bool, true, false, cond, _&&_, _||_}
+use mathlib.Core.Bool.{Bool, true, false, cond, _&&_, _||_, not}
 use mathlib.Core.Option.{Option, none, some}
 use native.Mathlib.Omega.{arith}
 use lib.ListN.{getD, set}
@@ -24,7 +24,7 @@ use Rattle.steps.proofs.Laws.{and-true}
 use Rattle.steps.proofs.Past.{Past, Others}
 use Rattle.steps.proofs.Times.{past-more}
 use Rattle.decryption.specs.declared.ThresholdDecrypt.{ThresholdDecrypt}
-use Rattle.decryption.specs.Decrypt.{new, isSender, withInput, withEnd, countShares, setCiphertext, checkShare, removeFrom, ownShare, startWith, combine, tryWith, startDecryption, tryOutput as tryCombine, storeShare, handleMessage as handleShare}
+use Rattle.decryption.specs.Decrypt.{new, isSender, withInput, withEnd, countShares, isSome, setCiphertext, isShareValid, checkShare, removeFrom, ownShare, startWith, combine, tryWith, startDecryption, tryOutput as tryCombine, storeShare, handleMessage as handleShare}
 use Rattle.decryption.proofs.Cycle.{Does}
 use Rattle.subset.specs.declared.ProposalState.{ProposalState}
 use Rattle.subset.specs.Words.{decidedAt, isDecided, acceptedAt, statusAt, countAt, recordAt, proposalAt, valueAt, arrivalAt, loadProposal, storeProposal, addContribution}
@@ -248,15 +248,22 @@ Decrypts k = (td : ThresholdDecrypt) (p : Tape) → Orderly Any entryKinds p (k 
 set-runs : (proposer ciphertext : ℕ) → Decrypts (setCiphertext proposer ciphertext)
 unfolding setCiphertext
 set-runs proposer ciphertext td p =
-    orderly-cond (eqb (td .ciphertext) 0) _ _
+    orderly-cond (isSome (td .ciphertext)) _ _ (orderly-ends tt)
     (orderly-about p 9 proposer td _ refl tt (λ a b q. orderly-cond (eqb a 0) _ _ (orderly-ends tt) (orderly-ends tt)))
-    (orderly-ends tt)
+
+valid-runs : (i : ℕ) → Decrypts (isShareValid i)
+unfolding isShareValid
+valid-runs i td p =
+    orderly-cond (eqb (td .ciphertext) 0) _ _ (orderly-ends tt)
+    (orderly-about p 10 i td _ refl tt (λ a b q. orderly-ends tt))
 
 check-runs : (i : ℕ) → Decrypts (checkShare i)
 unfolding checkShare
 check-runs i td p =
-    orderly-cond (eqb (getD (td .shares) i 0) 0) _ _ (orderly-ends tt)
-    (orderly-about p 10 i td _ refl tt (λ a b q. orderly-cond (eqb a 0) _ _ (orderly-before (quiet-fault 7 i 0 refl) (orderly-ends tt)) (orderly-ends tt)))
+    orderly-cond (isSender td i) _ _
+    (orderly-onward _ _ (valid-runs i td p) (λ valid td q _.
+    orderly-cond (not valid) _ _ (orderly-before (quiet-fault 7 i 0 refl) (orderly-ends tt)) (orderly-ends tt)))
+    (orderly-ends tt)
 
 remove-runs : (n i : ℕ) → Decrypts (removeFrom n i)
 unfolding removeFrom
@@ -278,11 +285,11 @@ module _ (net : NetworkInfo) (proposer : ℕ) where
       (orderly-cond (eqb (td .ciphertext) 0) _ _ (orderly-ends tt)
       (orderly-onward _ _ (remove-runs 16 0 td p) (λ _ td q _. own-runs k h (withInput td) q)))
 
-  combine-runs : Decrypts (combine net proposer)
+  combine-runs : Decrypts combine
   unfolding combine
   combine-runs td p = orderly-ask p 12 td _ refl tt (λ a b q. orderly-cond (eqb a 0) _ _ (orderly-ends tt) (orderly-ends tt))
 
-  with-try : (k : Does) → Decrypts k → Decrypts (tryWith net proposer k)
+  with-try : (k : Does) → Decrypts k → Decrypts (tryWith net k)
   unfolding tryWith
   with-try k h td p =
       orderly-cond (td .terminated) _ _ (orderly-ends tt)
@@ -301,15 +308,14 @@ module _ (net : NetworkInfo) (proposer : ℕ) where
   store-runs : (sender share : ℕ) → Decrypts (storeShare net proposer sender share)
   unfolding storeShare
   store-runs sender share td p =
-      orderly-cond (eqb (getD (td .shares) sender 0) 0) _ _ (try-combine-runs _ p) (orderly-before (quiet-fault 6 sender 0 refl) (orderly-ends tt))
+      orderly-cond (isSender td sender) _ _ (orderly-before (quiet-fault 6 sender 0 refl) (orderly-ends tt)) (try-combine-runs _ p)
 
   pub share-runs : (sender share : ℕ) → Decrypts (handleShare net proposer sender share)
   unfolding handleShare
   share-runs sender share td p =
       orderly-cond (td .terminated) _ _ (orderly-ends tt)
-      (orderly-cond (eqb (td .ciphertext) 0) _ _ (store-runs sender share td p)
-      (orderly-about p 10 sender td _ refl tt (λ a b q.
-      orderly-cond (eqb a 0) _ _ (orderly-before (quiet-fault 7 sender 0 refl) (orderly-ends tt)) (store-runs sender share td q))))
+      (orderly-onward _ _ (valid-runs sender td p) (λ valid td q _.
+      orderly-cond (not valid) _ _ (orderly-before (quiet-fault 7 sender 0 refl) (orderly-ends tt)) (store-runs sender share td q)))
 
   pub input-runs : (value : ℕ) → Decrypts (inputCiphertext net proposer value)
   unfolding inputCiphertext

@@ -2,7 +2,7 @@
 use Prim.Native.Nat.{ℕ, zero, suc, _+_}
 use mathlib.Core.Path.{_≡_, refl, ap, _∙_}
 use mathlib.Core.List.{List, [], _∷_}
-use mathlib.Core.Bool.{Bool, true, false, cond, _&&_}
+use mathlib.Core.Bool.{Bool, true, false, cond, _&&_, not}
 use mathlib.Core.Option.{Option, none, some}
 use lib.ListN.{getD, set}
 use lib.Dec.{leb, eqb}
@@ -11,12 +11,13 @@ use Rattle.steps.specs.declared.network_info.NetworkInfo.{NetworkInfo}
 use Rattle.steps.specs.declared.reader.Answer.the-variants.{Got, Refused}
 use Rattle.steps.specs.Network.{isValidator}
 use Rattle.steps.specs.Answers.{Rec, Tape, tape, asked, askFor, ask, askAbout}
-use Rattle.steps.specs.Runs.{Verdict, going, refused, failed, Run, heardAs, heard}
+use Rattle.steps.specs.Runs.{Verdict, going, refused, failed, Run, onwardAs, onward, heardAs, heard}
 use Rattle.steps.specs.Taken.{orElse, concernedAfter, concerns, firstDecrypted}
 use Rattle.steps.proofs.Laws.{and-true}
 use Rattle.steps.proofs.Past.{Past, past-one}
 use Rattle.decryption.specs.declared.ThresholdDecrypt.{ThresholdDecrypt}
-use Rattle.decryption.specs.Decrypt.{withInput, withEnd, countShares, setCiphertext, checkShare, removeFrom, removeInvalidShares, ownShare, startWith, combine, tryWith, startDecryption, tryOutput, storeShare, handleMessage as handleShare}
+use Rattle.decryption.specs.Decrypt.{withInput, withEnd, isSome, isSender, countShares, setCiphertext, isShareValid, checkShare, removeFrom, removeInvalidShares, ownShare, startWith, combine, tryWith, startDecryption, tryOutput, storeShare, handleMessage as handleShare}
+use Rattle.decryption.proofs.Laws.{valid-early}
 use Rattle.decryption.proofs.Cycle.{Does}
 use Rattle.decryption.proofs.Errors.{handle-keeps}
 use Rattle.subset.proofs.After.{AfterAs, After, after-map, after-cond, after-onward}
@@ -111,11 +112,19 @@ opens-none ws q who = go (concerns who q)
     go false = refl
 
 -- SHARES are checked without an answer 12
+valid-same : (i : ℕ) (td : ThresholdDecrypt) (p : Tape) → After (isShareValid i td p) (λ _ td′ z. Same (p .rest) (z .rest))
+unfolding isShareValid
+valid-same i td p =
+    after-cond (eqb (td .ciphertext) 0) _ _ _ (λ q who. refl)
+    (after-about p 10 td _ _ i (λ a b u r. reads-same p 10 i u refl refl r))
+
 check-same : (i : ℕ) (td : ThresholdDecrypt) (p : Tape) → After (checkShare i td p) (λ _ td′ z. Same (p .rest) (z .rest))
 unfolding checkShare
 check-same i td p =
-    after-cond (eqb (getD (td .shares) i 0) 0) _ _ _ (λ q who. refl)
-    (after-about p 10 td _ _ i (λ a b u r. let s = reads-same p 10 i u refl refl r in after-cond (eqb a 0) _ _ _ s s))
+    after-cond (isSender td i) _ _ _
+    (after-onward (isShareValid i td p) _ _
+    (after-map (isShareValid i td p) _ _ (valid-same i td p) (λ valid td u s. after-cond (not valid) _ _ _ s s)))
+    (λ q who. refl)
 
 remove-same : (n i : ℕ) (td : ThresholdDecrypt) (p : Tape) → After (removeFrom n i td p) (λ _ td′ z. Same (p .rest) (z .rest))
 unfolding removeFrom
@@ -165,12 +174,12 @@ module _ (net : NetworkInfo) (proposer : ℕ) where
   opens-more : (ws r z : List Rec) (o : Option ℕ) → Same ws r → Opens r o z → Opens ws o z
   opens-more ws r z o s t q who = s q who ∙ t q who
 
-  combine-opens : Combines (combine net proposer)
+  combine-opens : Combines combine
   unfolding combine
   combine-opens td p = after-ask p 12 td _ _ (λ a b u r. after-cond (eqb a 0) _ _ _ tt (reads-twelve p b u r))
 
   -- where starting decrypts nothing
-  with-try : (k : Does) → ((td : ThresholdDecrypt) (p : Tape) → After (k td p) (λ o td′ z. Same (p .rest) (z .rest))) → Combines (tryWith net proposer k)
+  with-try : (k : Does) → ((td : ThresholdDecrypt) (p : Tape) → After (k td p) (λ o td′ z. Same (p .rest) (z .rest))) → Combines (tryWith net k)
   unfolding tryWith
   with-try k h td p =
       after-cond (td .terminated) _ _ _ (opens-none (p .rest))
@@ -178,7 +187,7 @@ module _ (net : NetworkInfo) (proposer : ℕ) where
       (after-cond (eqb (td .ciphertext) 0) _ _ _ (opens-none (p .rest))
       (after-onward (k (withEnd td) p) _ _
       (after-map (k (withEnd td) p) _ _ (h (withEnd td) p) (λ _ td u s.
-      after-map (combine net proposer td u) _ _ (combine-opens td u) (λ o td z t. opens-more (p .rest) (u .rest) (z .rest) o s t))))))
+      after-map (combine td u) _ _ (combine-opens td u) (λ o td z t. opens-more (p .rest) (u .rest) (z .rest) o s t))))))
 
   start-opens : Combines (startDecryption net proposer)
   unfolding startDecryption
@@ -191,36 +200,33 @@ module _ (net : NetworkInfo) (proposer : ℕ) where
 
   store-opens : (sender share : ℕ) → Combines (storeShare net proposer sender share)
   unfolding storeShare
-  store-opens sender share td p = after-cond (eqb (getD (td .shares) sender 0) 0) _ _ _ (try-opens _ p) (opens-none (p .rest))
+  store-opens sender share td p = after-cond (isSender td sender) _ _ _ (opens-none (p .rest)) (try-opens _ p)
 
   share-opens : (sender share : ℕ) → Combines (handleShare net proposer sender share)
   unfolding handleShare
   share-opens sender share td p =
       after-cond (td .terminated) _ _ _ (opens-none (p .rest))
-      (after-cond (eqb (td .ciphertext) 0) _ _ _ (store-opens sender share td p)
-      (after-about p 10 td _ _ sender (λ a b u r.
-      let s = reads-same p 10 sender u refl refl r in
-      after-cond (eqb a 0) _ _ _ (opens-more (p .rest) (u .rest) (u .rest) none s (opens-none (u .rest)))
+      (after-onward (isShareValid sender td p) _ _
+      (after-map (isShareValid sender td p) _ _ (valid-same sender td p) (λ valid td u s.
+      after-cond (not valid) _ _ _ (opens-more (p .rest) (u .rest) (u .rest) none s (opens-none (u .rest)))
       (after-map (storeShare net proposer sender share td u) _ _ (store-opens sender share td u) (λ o td z t. opens-more (p .rest) (u .rest) (z .rest) o s t)))))
 
   -- without a ciphertext nothing is combined
   share-early : (sender share : ℕ) (td : ThresholdDecrypt) (p : Tape) → td .ciphertext ≡ 0 → After (handleShare net proposer sender share td p) (λ o td′ z. o ≡ none)
-  unfolding handleShare storeShare tryOutput tryWith
+  unfolding handleShare storeShare tryOutput tryWith onward onwardAs
   share-early sender share td p e =
       after-cond (td .terminated) _ _ _ refl
-      (rw (eq-eqb (td .ciphertext) 0 e)
-      (after-cond (eqb (getD (td .shares) sender 0) 0) _ _ _
+      (rw (valid-early sender td p e, eq-eqb (td .ciphertext) 0 e)
+      (after-cond (isSender td sender) _ _ _ refl
       (after-cond (td .terminated) _ _ _ refl
       (after-cond (leb (countShares (set (td .shares) sender share)) (net .«num_faulty»)) _ _ _ refl
-      refl))
-      refl))
+      refl))))
 
   set-same : (ciphertext : ℕ) (td : ThresholdDecrypt) (p : Tape) → After (setCiphertext proposer ciphertext td p) (λ _ td′ z. Same (p .rest) (z .rest))
   unfolding setCiphertext
   set-same ciphertext td p =
-      after-cond (eqb (td .ciphertext) 0) _ _ _
+      after-cond (isSome (td .ciphertext)) _ _ _ tt
       (after-about p 9 td _ _ proposer (λ a b u r. let s = reads-same p 9 proposer u refl refl r in after-cond (eqb a 0) _ _ _ s s))
-      tt
 
   input-opens : (value : ℕ) → Combines (inputCiphertext net proposer value)
   unfolding inputCiphertext

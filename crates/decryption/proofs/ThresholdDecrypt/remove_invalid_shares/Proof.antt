@@ -22,46 +22,46 @@ Inv-loop answers place₀ words₀ td₀ s₀ i₀ place words td s i = (i ≤ 1
 abbrev μ-loop : tie.MeasureT-loop
 μ-loop answers place₀ words₀ td₀ s₀ i₀ place words td s i = 16 - i
 
--- src/lib.rt:198:9
+-- src/lib.rt:225:9
 loop-holds : tie.Need-loop-holds Inv-loop μ-loop
 loop-holds c = (search needs, refl, refl)
 
--- src/lib.rt:199:17
+-- src/lib.rt:226:17
 check-share-requires : tie.Need-check-share-requires Inv-loop μ-loop
 check-share-requires c κs = search needs
 
 enum-told : tie.Need-enum-told Inv-loop μ-loop
 enum-told c = search needs
 
--- src/lib.rt:202:17
+-- src/lib.rt:229:17
 enum-told-2 : tie.Need-enum-told-2 Inv-loop μ-loop
 enum-told-2 c = search needs
 
--- src/lib.rt:202:17
+-- src/lib.rt:229:17
 same-length : tie.Need-same-length Inv-loop μ-loop
 same-length c = (c .before .before .before .before .check-share .kept .1 .1 .1 .1 .1 .0 ∙ c .before .before .before .before .before .before .before .before .loop .inv .1)
 
--- src/lib.rt:202:17
+-- src/lib.rt:229:17
 returns : tie.Need-returns Inv-loop μ-loop
 returns c = onward-stop _ _ _ _ (c .before .before .before .before .check-share .ensures) (refused-stays _ (not-done (c .before .before .before .before .check-share .result .outcome) (c .before .match .keys2))) ∙ (ap (leaves _) (sym (remove-step (c .before .before .before .before .before .before .before .before .loop .i) (c .before .before .before .before .before .before .before .before .loop .td) (tapeAt (c .before .before .before .before .before .before .before .before .before .before .before .args .answers .now) (c .before .before .before .before .before .before .before .before .loop .place)) (c .before .before .before .before .before .before .before .loop-test .taken))) ∙ c .before .before .before .before .before .before .before .before .loop .inv .2)
 
--- src/lib.rt:206:13
+-- src/lib.rt:233:13
 add-i : tie.Need-add-i Inv-loop μ-loop
 add-i c = search needs
 
--- src/lib.rt:198:9
+-- src/lib.rt:225:9
 loop-less : tie.Need-loop-less Inv-loop μ-loop
 loop-less c = search needs
 
--- src/lib.rt:198:9
+-- src/lib.rt:225:9
 loop-again : tie.Need-loop-again Inv-loop μ-loop
 loop-again c = (search needs, (c .before .before .before .before .before .before .check-share .kept .1 .1 .1 .1 .1 .0 ∙ c .before .before .before .before .before .before .before .before .before .before .loop .inv .1), onward-go _ _ _ (λ _ td q. removeFrom (16 - (c .before .before .before .before .before .before .before .before .before .before .loop .i + 1)) (c .before .before .before .before .before .before .before .before .before .before .loop .i + 1) td q) (c .before .before .before .before .before .before .check-share .ensures) tt (ap checkedVerdict (c .before .before .enum-told .given .1)) ∙ (ap (leaves _) (sym (remove-step (c .before .before .before .before .before .before .before .before .before .before .loop .i) (c .before .before .before .before .before .before .before .before .before .before .loop .td) (tapeAt (c .before .before .before .before .before .before .before .before .before .before .before .before .before .args .answers .now) (c .before .before .before .before .before .before .before .before .before .before .loop .place)) (c .before .before .before .before .before .before .before .before .before .loop-test .taken))) ∙ c .before .before .before .before .before .before .before .before .before .before .loop .inv .2))
 
--- src/lib.rt:186:5
+-- src/lib.rt:212:5
 same-length-2 : tie.Need-same-length-2 Inv-loop μ-loop
 same-length-2 c = c .before .loop .inv .1
 
--- src/lib.rt:186:5
+-- src/lib.rt:212:5
 returns-2 : tie.Need-returns-2 Inv-loop μ-loop
 unfolding putAll
 returns-2 c = ap (leaves _) (sym (remove-done (c .before .loop .i) (c .before .loop .td) (tapeAt (c .before .before .before .before .args .answers .now) (c .before .loop .place)) (c .loop-test .left))) ∙ c .before .loop .inv .2

@@ -1,46 +1,50 @@
 -- Made by `fill` from answers.txt: change that and fill again.
 use mathlib.Core.Path.{sym, ap, _∙_}
 use borrow.Author.Needs.{needs}
-use Rattle.steps.specs.Steps.{putAll}
 use Rattle.steps.specs.Runs.{leaves}
+use Rattle.decryption.proofs.Laws.{hands}
 use Rattle.decryption.proofs.Messages.{store-first, store-faults}
 use Rattle.decryption.proofs.ThresholdDecrypt.store_share.Statement.{statement}
 use Rattle.decryption.proofs.ThresholdDecrypt.store_share.Tie as tie
 use Rattle.decryption.proofs.ThresholdDecrypt.store_share.Reads as reads
 use Rattle.decryption.proofs.ThresholdDecrypt.store_share.Lts as lts
+use Rattle.decryption.proofs.ThresholdDecrypt.handled.Reads as handled-reads
 use Rattle.decryption.proofs.ThresholdDecrypt.try_output.Reads as try-output-reads
 use Rattle.steps.proofs.step.Step.fault.Reads as fault-reads
 
--- src/lib.rt:355:19
+-- src/lib.rt:356:19
 mul-old : tie.Need-mul-old
 mul-old c = search needs
 
--- src/lib.rt:355:19
+-- src/lib.rt:356:19
 element-copy-out-old : tie.Need-element-copy-out-old
 element-copy-out-old c = search needs
 
--- src/lib.rt:356:9
+-- src/lib.rt:357:9
 mul-td : tie.Need-mul-td
 mul-td c = search needs
 
--- src/lib.rt:356:9
+-- src/lib.rt:357:9
 element-write-td : tie.Need-element-write-td
 element-write-td c = search needs
 
--- src/lib.rt:358:17
+-- src/lib.rt:359:17
 fault-requires : tie.Need-fault-requires
 fault-requires c κs = search needs
 
--- src/lib.rt:359:13
+-- src/lib.rt:360:13
+handled-requires : tie.Need-handled-requires
+handled-requires c κs = search needs
+
+-- src/lib.rt:360:13
 same-length : tie.Need-same-length
 same-length c = search needs
 
--- src/lib.rt:359:13
+-- src/lib.rt:360:13
 returns : tie.Need-returns
-unfolding putAll
-returns c = store-faults _ _ _ _ _ _ (c .before .before .before .before .if1 .taken) _ _ (c .before .before .fault .ensures)
+returns c = hands (c .handled .ensures) ∙ store-faults _ _ _ _ _ _ (c .before .before .before .before .before .if1 .taken) _ _ (c .before .before .before .fault .ensures)
 
--- src/lib.rt:365:9
+-- src/lib.rt:362:9
 try-output-requires : tie.Need-try-output-requires
 try-output-requires c κs = search needs
 
@@ -61,6 +65,7 @@ store-share-spec =
     mul-td
     element-write-td
     fault-requires
+    handled-requires
     same-length
     returns
     try-output-requires
