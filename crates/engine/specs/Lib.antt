@@ -12,3 +12,4 @@ pub mod Opened
 pub mod Cases
 pub mod Further
 pub mod Pair
+pub mod PairRule
