@@ -5,7 +5,7 @@ use native.Mathlib.Omega.{arith}
 use mathlib.Core.Path.{_≡_, refl, sym, ap, _∙_, subst₂, fun-ext}
 use mathlib.Core.List.{List, [], _∷_, _++_}
 use mathlib.Core.Bool.{Bool, true, false, cond}
-use mathlib.Core.Option.{Option, none, some}
+use mathlib.Core.Option.{Option, none}
 use lib.Dec.{eqb, ltb}
 use lib.ListN.{set}
 use borrow.Author.Tests.{eqb-true, eqb-false, ltb-true, ltb-false}
@@ -36,12 +36,11 @@ use Rattle.epoch.proofs.Eights.{eightsOf, Counted, proposed-counted, handled-co
 use Rattle.engine.specs.State.{nodes, ahead, currentEpoch, inputAt, netOf, strategyOf, encryptedIn, epochWords, withEpoch}
 use Rattle.engine.specs.HoneyBadger.{updateEpoch, epochStateMut, inEpoch, tryOutputBatches, outputBatches, propose, handleMessage}
 use Rattle.engine.specs.Calls.{contentOf, proposeCall, messageCall}
-use Rattle.engine.specs.History.{Call, turnOf, stateAfter, turns, noneFails, Event, event, eventsOf, currentAfter, history, taken}
-use Rattle.engine.specs.History.{propose as proposing, message as messaging, skip as skipping}
+use Rattle.engine.specs.History.{Call, turnOf, stateAfter, turns, noneFails, Event, eventsOf, currentAfter, history, taken, propose as proposing, message as messaging, skip as skipping}
 use Rattle.engine.specs.Outputs.{timesAskedIn}
 use Rattle.engine.proofs.Handout.{Tk}
 use Rattle.engine.proofs.Invariant.{Sim, net-same, strategy-same, encrypted-same, sim-set}
-use Rattle.engine.proofs.OneCall.{gives-after, Built, mut-ok}
+use Rattle.engine.proofs.OneCall.{gives-after, mut-ok}
 use Rattle.engine.proofs.Passes.{propose-passes, message-passes, other-leaves}
 use Rattle.engine.proofs.OneRun.{newV, newD, upto, upto-taken, named-below, proposed, handled, skipped}
 

@@ -1,10 +1,10 @@
 -- The output of an epoch with its values: the entries of a batch, and the decrypted contributions of a complete epoch. Assumes nothing.
 use Prim.Native.Nat.{ℕ, _<_}
 use native.Mathlib.Omega.{arith}
-use mathlib.Core.Path.{_≡_, refl, sym, ap, _∙_}
+use mathlib.Core.Path.{_≡_, refl, sym}
 use mathlib.Core.Logic.{_⊎_, inl, inr}
 use mathlib.Core.List.{List, [], _∷_, _++_, List·Memᴰ, List·Memᴰ·head, List·Memᴰ·tail}
-use mathlib.Core.Bool.{Bool, true, false, cond, false≢true}
+use mathlib.Core.Bool.{Bool, true, false, cond}
 use mathlib.Core.Option.{Option, none, some}
 use lib.Dec.{eqb}
 use lib.ListN.{getD}
@@ -18,7 +18,7 @@ use Rattle.epoch.specs.Words.{isComplete, isAccepted, DecryptionState, missing,
 use Rattle.epoch.proofs.Handled.{TextOk}
 use Rattle.epoch.proofs.Holds.{Going, Done, Holds}
 use Rattle.engine.specs.History.{Event, decisionTaken, plaintext, Handed, namesOf}
-use Rattle.engine.specs.Outputs.{paired, pairsIn, pairsRead, plaintextOf}
+use Rattle.engine.specs.Outputs.{paired, pairsIn, pairsRead, pairsGiven, plaintextOf}
 use Rattle.engine.proofs.OneBatch.{entriesOf}
 use Rattle.engine.proofs.Handout.{InAll, of-names, is-true}
 use Rattle.engine.proofs.Invariant.{Slot, vacant, lives}
@@ -35,8 +35,8 @@ pairs-are text x (r ∷ rs) h = go (eqb (r .a) 0) (pairs-are text x rs (λ p m. 
     go false ih = rw (h (r .b) (List·Memᴰ·head refl), ih)
 
 pub entries-given : (n f : ℕ) (encrypted : ℕ → Bool) (h : List Event) (x : Handed) → InAll n f encrypted h (x .batch) (x .thirteens)
-    → pairsIn (x .batch .entries) ≡ pairsRead (plaintext encrypted h (x .batch .epoch)) (x .thirteens)
-unfolding plaintext
+    → pairsIn (x .batch .entries) ≡ pairsGiven encrypted h x
+unfolding plaintext pairsGiven
 entries-given n f encrypted h x k =
     rw (k .entries)
     (pairs-are (k .text) (plaintext encrypted h (x .batch .epoch)) (x .thirteens) (λ p m.

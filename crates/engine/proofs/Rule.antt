@@ -29,7 +29,7 @@ use Rattle.engine.specs.State.{ahead, currentEpoch, netOf, strategyOf, e
 use Rattle.engine.specs.Create.{Numbers, created, createState}
 use Rattle.engine.specs.History.{Call, turns, noneFails, Event, history, valueTaken, decisionTaken, decrypted, plaintext, Handed, handed}
 use Rattle.engine.specs.Claim.{Made, Sound, historyOf, encryptedOf}
-use Rattle.engine.specs.Outputs.{pairsIn, pairsRead, plaintextOf, timesAskedIn, isHandled}
+use Rattle.engine.specs.Outputs.{pairsIn, pairsRead, pairsGiven, plaintextOf, timesAskedIn, isHandled}
 use Rattle.engine.specs.Rule.{stateAfterAll, endOf, netIn, speaks, strategyIn, Votes, EngineRule}
 use Rattle.engine.proofs.Created.{create-passes}
 use Rattle.engine.proofs.Entries.{entries-given, slot-decrypted}
@@ -178,11 +178,12 @@ handed-ok m s x i =
 
 -- THE ENTRIES OF A BATCH
 pub entries-ok : (m : Made) → Sound m → (x : Handed) → List·Memᴰ x (handed (m .numbers .nodes) (encryptedOf m) (historyOf m))
-    → pairsIn (x .batch .entries) ≡ pairsRead (plaintext (encryptedOf m) (historyOf m) (x .batch .epoch)) (x .thirteens)
+    → pairsIn (x .batch .entries) ≡ pairsGiven (encryptedOf m) (historyOf m) x
 entries-ok m s x i = entries-given (m .numbers .nodes) (m .numbers .faulty) (encryptedOf m) (historyOf m) x (handout m s x i)
 
 pub plain-ok : (m : Made) → Sound m → (x : Handed) → List·Memᴰ x (handed (m .numbers .nodes) (encryptedOf m) (historyOf m))
     → encryptedOf m (x .batch .epoch) ≡ false → pairsIn (x .batch .entries) ≡ pairsRead (valueTaken (historyOf m) (x .batch .epoch)) (x .thirteens)
+unfolding pairsGiven
 plain-ok m s x i e = entries-ok m s x i ∙ ap (λ (t : ℕ → Option ℕ). pairsRead t (x .thirteens)) (fun-ext (λ p. is-value (encryptedOf m) (historyOf m) (x .batch .epoch) p e))
 
 -- KIND 8

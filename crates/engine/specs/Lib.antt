@@ -13,4 +13,5 @@ pub mod Opened
 pub mod Cases
 pub mod Further
 pub mod Pair
+pub mod PairRule
 pub mod SecondPair

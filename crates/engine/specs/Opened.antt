@@ -27,5 +27,5 @@ unfolding EpochOpened.opened
     History.wantedIn History.dealt History.handedOf History.namesOf History.thirteensOf History.unreadableIn
     History.proposersIn History.unreadableOf History.readingOf History.valueOf History.readingsAt History.readingsIn
     History.readingsOf13 History.readingsOfBatches History.readingsOfCalls
-    Outputs.pairsIn Outputs.pairsRead Outputs.plaintextOf Outputs.timesAskedIn Outputs.isHandled
+    Outputs.pairsIn Outputs.pairsRead Outputs.pairsGiven Outputs.plaintextOf Outputs.timesAskedIn Outputs.isHandled
 opened = tt

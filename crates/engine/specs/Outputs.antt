@@ -13,7 +13,7 @@ use Rattle.epoch.specs.declared.SubsetHandlingStrategy.{SubsetHandlingStrategy}
 use Rattle.epoch.specs.Words.{DecryptionState, missing, ongoing, complete}
 use Rattle.epoch.specs.Epoch.{handlesNow}
 use Rattle.steps.specs.Batches.{BatchEntry}
-use Rattle.engine.specs.History.{Event}
+use Rattle.engine.specs.History.{Event, plaintext, Handed}
 
 -- a proposer and its plaintext, if it has one
 pub record Paired : Type 0 where
@@ -32,6 +32,10 @@ pairsIn (x ∷ xs) = paired (x .proposer) (some (x .plaintext)) ∷ pairsIn xs
 unfoldable pub pairsRead : (ℕ → Option ℕ) → List Rec → List Paired
 pairsRead text [] = []
 pairsRead text (r ∷ rs) = cond (eqb (r .a) 0) [] (paired (r .b) (text (r .b)) ∷ []) ++ pairsRead text rs
+
+-- the pairs that a batch's 13s and the history give it
+unfoldable pub pairsGiven : (ℕ → Bool) → List Event → Handed → List Paired
+pairsGiven encrypted h x = pairsRead (plaintext encrypted h (x .batch .epoch)) (x .thirteens)
 
 -- the plaintext in a proposer's decryption entry
 unfoldable pub plaintextOf : DecryptionState → Option ℕ

@@ -18,7 +18,7 @@ use Rattle.engine.specs.State.{nodes, ahead, currentEpoch, netOf, strate
 use Rattle.engine.specs.Create.{Numbers, createReply, createState}
 use Rattle.engine.specs.History.{Call, stateAfter, Event, valueTaken, decisionTaken, plaintext, Handed, handed}
 use Rattle.engine.specs.Claim.{Made, Sound, historyOf, encryptedOf}
-use Rattle.engine.specs.Outputs.{pairsIn, pairsRead, plaintextOf, timesAskedIn, isHandled}
+use Rattle.engine.specs.Outputs.{pairsIn, pairsRead, pairsGiven, plaintextOf, timesAskedIn, isHandled}
 
 -- the state that a list of calls leaves
 unfoldable pub stateAfterAll : List ℕ → List Call → List ℕ
@@ -82,13 +82,14 @@ pub record PaperRule (m : Made) : Type 0 where
   -- "the output is those pairs": a batch has an entry for each of its 13s that reads, in their order, the proposer and the plaintext that the
   -- history gives. Its 13s name the proposers decided 1 (`Exact` in Claim.antt)
   pub entries : (x : Handed) → List·Memᴰ x (handed (m .numbers .nodes) (encryptedOf m) (historyOf m))
-      → pairsIn (x .batch .entries) ≡ pairsRead (plaintext (encryptedOf m) (historyOf m) (x .batch .epoch)) (x .thirteens)
+      → pairsIn (x .batch .entries) ≡ pairsGiven (encryptedOf m) (historyOf m) x
   -- "The plaintext is the value itself where the epoch is not encrypted": in a plain epoch the entries are proposers and values taken
   pub plainEntries : (x : Handed) → List·Memᴰ x (handed (m .numbers .nodes) (encryptedOf m) (historyOf m))
       → encryptedOf m (x .batch .epoch) ≡ false
       → pairsIn (x .batch .entries) ≡ pairsRead (valueTaken (historyOf m) (x .batch .epoch)) (x .thirteens)
   -- "8 ciphertext reads": in an encrypted epoch each pair of the output is read once. In every epoch, whatever became of it, all calls together
   -- have asked kind 8 once about each proposer whose contribution has been handled and about no other, and never where the epoch is plain
+  -- (a name at or above N is a malformed table, reply 5)
   pub eights : (e p : ℕ) → p < netIn m .«num_nodes»
       → timesAskedIn 8 (historyOf m) e p
       ≡ cond (encryptedOf m e && isHandled (netIn m) (strategyIn m) (valueTaken (historyOf m) e) (decisionTaken (historyOf m) e) p) 1 0

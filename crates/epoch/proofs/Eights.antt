@@ -3,12 +3,12 @@ use Prim.Native.Nat.{ℕ, zero, suc, _+_, _≤_, _<_}
 use mathlib.Core.Path.{_≡_, refl, sym, ap, _∙_}
 use mathlib.Core.Logic.{_⊎_, inl, inr}
 use mathlib.Core.List.{List}
-use mathlib.Core.Bool.{Bool, true, false, cond, _&&_, _||_, not, false≢true}
+use mathlib.Core.Bool.{Bool, true, false, cond, _&&_}
 use mathlib.Core.Option.{Option, none, some}
 use native.Mathlib.Omega.{arith}
 use lib.ListN.{getD, set}
 use lib.Seq.{getD-set-other}
-use lib.Dec.{eqb, leb}
+use lib.Dec.{eqb}
 use borrow.Author.Tests.{eqb-true, eqb-false, le-leb}
 use Rattle.steps.specs.declared.network_info.NetworkInfo.{NetworkInfo}
 use Rattle.steps.specs.Network.{numCorrect}
@@ -26,7 +26,7 @@ use Rattle.subset.specs.Subset.{propose as proposeSubset, handleMessage as hand
 use Rattle.subset.specs.Rule.{isOver}
 use Rattle.subset.proofs.After.{After, after-map, after-cond, after-onward, after-inside}
 use Rattle.subset.proofs.Proposals.{outputOf}
-use Rattle.subset.proofs.Held.{Held, isOut}
+use Rattle.subset.proofs.Held.{Held}
 use Rattle.subset.proofs.Calls.{Called}
 use Rattle.epoch.specs.declared.SubsetHandlingStrategy.{SubsetHandlingStrategy}
 use Rattle.epoch.specs.declared.SubsetHandlingStrategy.the-variants.{Incremental, AllAtEnd}
@@ -34,7 +34,7 @@ use Rattle.epoch.specs.declared.MessageContent.{MessageContent}
 use Rattle.epoch.specs.declared.MessageContent.the-variants.{Broadcast, Agreement, DecryptionShare}
 use Rattle.epoch.specs.Words.{isComplete, isAccepted, missing, complete, loadEntry, loadDecryption, storeDecryption}
 use Rattle.epoch.proofs.Shares.{by-entry, by-share}
-use Rattle.epoch.specs.Epoch.{firstContributions, unexpectedShares, handlesNow, subsetComplete, proposalDropped, entryAfter, processDecryption, callEntry, inputCiphertext, sendDecryptionShare, handleDecryptionShare, finishAt, finishFrom, handleContribution, handleFrom, handleContributions, processSubset, handedUp, callSubset, propose, handleMessageContent}
+use Rattle.epoch.specs.Epoch.{firstContributions, handlesNow, subsetComplete, proposalDropped, entryAfter, processDecryption, callEntry, inputCiphertext, sendDecryptionShare, handleDecryptionShare, finishAt, finishFrom, handleContribution, handleFrom, handleContributions, processSubset, handedUp, callSubset, propose, handleMessageContent}
 use Rattle.epoch.proofs.Told.{shareOf, Told}
 use Rattle.epoch.proofs.Passes.{subsetKinds, subset-eight, entryKinds, entry-eight, outside-accepted, outside-record, Frame, share-runs, input-runs}
 use Rattle.epoch.proofs.Texts.{Reads, after-ask, after-about, reads-past, after-with, after-both, after-any}
