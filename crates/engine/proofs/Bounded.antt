@@ -14,7 +14,7 @@ use Rattle.steps.specs.declared.reader.Answer.the-variants.{Got, Refused}
 use Rattle.steps.specs.Network.{isValidator}
 use Rattle.steps.specs.Table.{tableOk}
 use Rattle.steps.specs.Answers.{Tape, tapeOf, ask}
-use Rattle.steps.specs.Steps.{Entry, out, putAll, counting, starting, records as recordsOf, putHeader, written}
+use Rattle.steps.specs.Steps.{Entry, out, putAll, counting, writing, records as recordsOf, putHeader, written}
 use Rattle.steps.specs.Runs.{going, failed, Run, ends, onward, heardAs, heard}
 use Rattle.steps.proofs.Laws.{and-true}
 use Rattle.steps.proofs.Bounded.{Bounded, chainLimit, table-bounded, bounded-ends, bounded-wider, bounded-one, bounded-cond, bounded-ask, bounded-then, bounded-inside}
@@ -182,7 +182,7 @@ pub record Exact (log : List Entry) : Type 0 where
   pub records : (v : List ℕ) → recordsOf (putAll (out counting v) log .step) ≡ 1 + length log
   pub test : (v : List ℕ) (room : ℕ) → leb (recordsOf (putAll (out counting v) log .step)) room ≡ leb (1 + length log) room
   pub finishes : (v w : List ℕ) (epoch : ℕ) → 1 + length log ≤ length w / 4
-      → putHeader (putAll (out (starting (putAll (out counting v) log .step)) w) log .words) (starting (putAll (out counting v) log .step)) epoch ≡ written w log epoch
+      → putHeader (putAll (out (writing (putAll (out counting v) log .step)) w) log .words) (writing (putAll (out counting v) log .step)) epoch ≡ written w log epoch
 
 log-exact : (log : List Entry) → length log ≤ logLimit → Exact log
 log-exact log h =

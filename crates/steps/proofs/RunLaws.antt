@@ -28,6 +28,16 @@ onward-assoc {S} {A} {B} {C} r k m = go (r .verdict)
     go refused = refl
     go (failed c) = refl
 
+-- what follows an answer goes on after it
+pub onward-heard : {S A B : Type 0} (q : Asked) (s : S) (f : ℕ → ℕ → Tape → Run S A) (k : A → S → Tape → Run S B)
+    → onward (heard q s f) k ≡ heard q s (λ a b u. onward (f a b u) k)
+unfolding heard heardAs onward onwardAs
+onward-heard {A = A} {B = B} q s f k = go (q .answer)
+  where
+    go : (x : Answer) → onward (heardAs x s (q .tape) f) k ≡ heardAs x s (q .tape) (λ a b u. onward (f a b u) k)
+    go (Got a b) = refl
+    go Refused = refl
+
 pub onward-inside : {S T A B : Type 0} (put : T → S) (r : Run T A) (k : A → T → Tape → Run T B) (m : A → S → Tape → Run S B)
     → ((a : A) → inside put (k a (r .state) (r .tape)) ≡ m a (put (r .state)) (r .tape)) → inside put (onward r k) ≡ onward (inside put r) m
 unfolding onward onwardAs
