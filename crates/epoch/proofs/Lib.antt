@@ -15,3 +15,4 @@ pub mod Laws
 pub mod Batches
 pub mod Bounded
 pub mod Orders
+pub mod Lists
