@@ -17,3 +17,4 @@ pub mod Eights
 pub mod Batches
 pub mod Bounded
 pub mod Orders
+pub mod Lists

@@ -104,7 +104,7 @@ module _ (net : NetworkInfo) where
   N = net .«num_nodes»
 
   -- proposer p's end of Done touches its own record only
-  finish-words : (p : ℕ) (w : List ℕ) (u : Tape) (i : ℕ) → ((j : ℕ) → j < 8 + N → i ≡ recordAt N p j → ⊥) → getD (finishAt net p w u .state) i 0 ≡ getD w i 0
+  pub finish-words : (p : ℕ) (w : List ℕ) (u : Tape) (i : ℕ) → ((j : ℕ) → j < 8 + N → i ≡ recordAt N p j → ⊥) → getD (finishAt net p w u .state) i 0 ≡ getD w i 0
   unfolding finishAt proposalDropped
   finish-words p w u i f = go (isAccepted w p)
     where

@@ -1,0 +1,119 @@
+-- UNDER INCREMENTAL NO CONTRIBUTION IS KEPT BETWEEN CALLS: where none was kept before a call of an epoch, none is afterwards, whatever the
+-- verdict. Assumes nothing.
+use Prim.Native.Nat.{ℕ, zero, suc, _+_, _-_}
+use mathlib.Core.Path.{_≡_, refl, ap, _∙_}
+use mathlib.Core.List.{List}
+use mathlib.Core.Bool.{Bool, true, false, cond}
+use mathlib.Core.Option.{Option}
+use native.Mathlib.Omega.{arith}
+use lib.ListN.{length, getD, set, List·getD-eq-default}
+use lib.Seq.{getD-set-same, getD-set-other, set-out}
+use lib.Dec.{eqb, ltb}
+use borrow.Author.Tests.{ltb-true, ltb-false}
+use Rattle.steps.specs.declared.network_info.NetworkInfo.{NetworkInfo}
+use Rattle.steps.specs.declared.reader.Answer.{Answer}
+use Rattle.steps.specs.declared.reader.Answer.the-variants.{Got, Refused}
+use Rattle.steps.specs.Answers.{Tape, Asked, ask}
+use Rattle.steps.specs.Runs.{Verdict, going, refused, failed, Run, onwardAs, onward, heardAs, heard, inside}
+use Rattle.decryption.specs.declared.ThresholdDecrypt.{ThresholdDecrypt}
+use Rattle.subset.specs.Words.{statusAt, decidedAt, countAt, countOf, dropFrom}
+use Rattle.epoch.specs.declared.SubsetHandlingStrategy.the-variants.{Incremental}
+use Rattle.epoch.specs.declared.MessageContent.{MessageContent}
+use Rattle.epoch.specs.declared.MessageContent.the-variants.{Broadcast, Agreement, DecryptionShare}
+use Rattle.epoch.specs.Words.{isComplete, storeDecryption}
+use Rattle.epoch.specs.Epoch.{firstContributions, entryAfter, handlesNow, subsetComplete, processDecryption, finishAt, finishFrom, handleContributions, processSubset, handedUp, callSubset, propose, handleMessageContent}
+use Rattle.epoch.proofs.Entries.{store-low}
+use Rattle.epoch.proofs.Shares.{by-entry, by-share}
+use Rattle.epoch.proofs.Orders.{finish-words}
+
+-- nothing is kept
+abbrev pub NoneKept : List ℕ → Type 0
+NoneKept w = countOf w ≡ 0
+
+-- a run that ends so, whatever its verdict
+module _ {A : Type 0} where
+  none-cond : (x : Bool) (r s : Run (List ℕ) A) → NoneKept (r .state) → NoneKept (s .state) → NoneKept (cond x r s .state)
+  none-cond true r s f g = f
+  none-cond false r s f g = g
+
+  none-heard : (q : Asked) (w : List ℕ) (k : ℕ → ℕ → Tape → Run (List ℕ) A) → NoneKept w → ((a b : ℕ) (u : Tape) → NoneKept (k a b u .state)) → NoneKept (heard q w k .state)
+  unfolding heard heardAs
+  none-heard q w k h f = go (q .answer)
+    where
+      go : (x : Answer) → NoneKept (heardAs x w (q .tape) k .state)
+      go (Got a b) = f a b (q .tape)
+      go Refused = h
+
+none-onward : {A B : Type 0} (r : Run (List ℕ) A) (k : A → List ℕ → Tape → Run (List ℕ) B)
+    → ((a : A) → r .verdict ≡ going a → NoneKept (k a (r .state) (r .tape) .state)) → (((a : A) → r .verdict ≡ going a → ⊥) → NoneKept (r .state)) → NoneKept (onward r k .state)
+unfolding onward onwardAs
+none-onward {A = A} r k f g = go (r .verdict) refl
+  where
+    go : (v : Verdict A) → r .verdict ≡ v → NoneKept (onwardAs v r k .state)
+    go (going a) e = f a e
+    go refused e = g (λ a h. let z : _≡_ {A = Verdict A} refused (going a) = cc in let y : _≡_ {A = ℕ} 0 1 = cc in omega arith)
+    go (failed n) e = g (λ a h. let z : _≡_ {A = Verdict A} (failed n) (going a) = cc in let y : _≡_ {A = ℕ} 0 1 = cc in omega arith)
+
+-- the list cut to nothing
+none-first : (n : ℕ) (w : List ℕ) → NoneKept (firstContributions n 0 w)
+unfolding firstContributions
+none-first n w = go (dropFrom n (countOf w - 0) 0 w) (ltb countAt (length (dropFrom n (countOf w - 0) 0 w))) refl
+  where
+    go : (v : List ℕ) (x : Bool) → ltb countAt (length v) ≡ x → getD (set v countAt 0) countAt 0 ≡ 0
+    go v true e = getD-set-same v countAt 0 0 (ltb-true _ _ e)
+    go v false e = ap (λ l. getD l countAt 0) (set-out v countAt 0 (ltb-false _ _ e)) ∙ List·getD-eq-default v 0 {n = countAt} (ltb-false _ _ e)
+
+done-none : (w : List ℕ) → NoneKept w → NoneKept (subsetComplete w)
+unfolding subsetComplete
+done-none w h = getD-set-other (set w statusAt 2) decidedAt countAt 0 0 (λ e. omega arith) ∙ getD-set-other w statusAt countAt 2 0 (λ e. omega arith) ∙ h
+
+module _ (net : NetworkInfo) where
+  abbrev n : ℕ
+  n = net .«num_nodes»
+
+  finish-none : (m p : ℕ) (w : List ℕ) (u : Tape) → NoneKept w → NoneKept (finishFrom net m p w u .state)
+  unfolding finishFrom
+  finish-none zero p w u h = h
+  finish-none (suc m) p w u h =
+      let k : NoneKept (finishAt net p w u .state) = finish-words net p w u countAt (λ j l e. omega arith) ∙ h in
+      none-onward (finishAt net p w u) _ (λ _ _. finish-none m (p + 1) _ _ k) (λ _. k)
+
+  process-none : (p : ℕ) (w : List ℕ) (r : Run ThresholdDecrypt (Option ℕ)) → NoneKept w → NoneKept (processDecryption net p w r .state)
+  unfolding processDecryption
+  process-none p w r h =
+      let k : NoneKept (storeDecryption n w p (entryAfter (r .verdict) (r .state))) = store-low n p w (entryAfter (r .verdict) (r .state)) countAt (omega arith) ∙ h in
+      none-onward _ _ (λ _ _. k) (λ _. k)
+
+  module _ (encrypted : Bool) where
+    -- the contributions that have come are handled, and the list is empty, even after a failure
+    subset-none : (done : Bool) (w : List ℕ) (u : Tape) → NoneKept (processSubset net Incremental encrypted done w u .state)
+    unfolding processSubset handlesNow handleContributions
+    subset-none done w u =
+        let k = none-first n _ in
+        none-onward (handleContributions net Incremental encrypted w u) _
+        (λ _ _. none-cond done _ _ (finish-none n 0 _ _ (done-none (handleContributions net Incremental encrypted w u .state) k)) k)
+        (λ _. k)
+
+    call-none : (call : List ℕ → Tape → Run (List ℕ) Bool) (w : List ℕ) (u : Tape) → NoneKept w → NoneKept (callSubset net Incremental encrypted call w u .state)
+    unfolding callSubset handedUp
+    call-none call w u h = none-cond (isComplete w) _ _ h (go (call w u .verdict) refl)
+      where
+        cut : (r : Run (List ℕ) Bool) → NoneKept (firstContributions n (countOf w) (r .state))
+        cut r = rw h (none-first n (r .state))
+
+        go : (v : Verdict Bool) → call w u .verdict ≡ v → NoneKept (onward (handedUp net Incremental encrypted (countOf w) v (call w u)) (processSubset net Incremental encrypted) .state)
+        go (going done) e = none-onward (call w u) _ (λ d _. subset-none d _ _) (λ stops. absurd (stops done e))
+        go refused e = none-onward (inside (firstContributions n (countOf w)) (call w u)) _ (λ d _. subset-none d _ _) (λ _. cut (call w u))
+        go (failed error) e = none-onward (inside (firstContributions n (countOf w)) (call w u)) _ (λ d _. subset-none d _ _) (λ _. cut (call w u))
+
+    -- THE EPOCH'S TWO CALLS
+    pub propose-none : (w : List ℕ) (u : Tape) → NoneKept w → NoneKept (propose net Incremental encrypted w u .state)
+    unfolding propose
+    propose-none w u h = none-heard (ask u 2) w _ h (λ a b z. none-cond (eqb a 0) _ _ h (call-none _ w z h))
+
+    pub content-none : (sender p : ℕ) (content : MessageContent) (w : List ℕ) (u : Tape) → NoneKept w → NoneKept (handleMessageContent net Incremental encrypted sender p content w u .state)
+    unfolding handleMessageContent
+    content-none sender p Broadcast w u h = call-none _ w u h
+    content-none sender p Agreement w u h = call-none _ w u h
+    content-none sender p (DecryptionShare share) w u h =
+        by-share net p w u (λ r. NoneKept (r .state)) sender share h (by-entry net p w u (λ r. NoneKept (r .state)) _ (process-none p w _ h) h)
