@@ -16,11 +16,11 @@ use Rattle.decryption.proofs.Cycle.{Does}
 
 -- a handle, or 0 for none, at every place
 abbrev pub handles : ℕ → ℕ
-handles i = 4294967296
+handles i = 0x1_0000_0000
 
 -- room for 16 senders, and every handle below 2^32
 pub record InstanceOk (td : ThresholdDecrypt) : Type 0 where
-  pub ciphertext : td .ciphertext < 4294967296
+  pub ciphertext : td .ciphertext < 0x1_0000_0000
   pub shares : Below handles 16 (td .shares)
 
 -- an operation after which an instance and its plaintext are in range
@@ -30,7 +30,7 @@ Safe Q k = (td : ThresholdDecrypt) (p : Tape) → InstanceOk td → AllSmall (p 
 pub new-ok : InstanceOk new
 new-ok = record { ciphertext = omega arith; shares = below-zeros handles 16 (λ i. omega arith) }
 
-share-ok : (td : ThresholdDecrypt) (i v : ℕ) → InstanceOk td → v < 4294967296 → InstanceOk (withShares td (set (td .shares) i v))
+share-ok : (td : ThresholdDecrypt) (i v : ℕ) → InstanceOk td → v < 0x1_0000_0000 → InstanceOk (withShares td (set (td .shares) i v))
 share-ok td i v h l = record { ciphertext = h .ciphertext; shares = below-set handles 16 (td .shares) i v (h .shares) l }
 
 input-ok : (td : ThresholdDecrypt) → InstanceOk td → InstanceOk (withInput td)
@@ -39,7 +39,7 @@ input-ok td h = record { ciphertext = h .ciphertext; shares = h .shares }
 end-ok : (td : ThresholdDecrypt) → InstanceOk td → InstanceOk (withEnd td)
 end-ok td h = record { ciphertext = h .ciphertext; shares = h .shares }
 
-pub set-safe : (proposer ciphertext : ℕ) → ciphertext < 4294967296 → Safe Any (setCiphertext proposer ciphertext)
+pub set-safe : (proposer ciphertext : ℕ) → ciphertext < 0x1_0000_0000 → Safe Any (setCiphertext proposer ciphertext)
 unfolding setCiphertext
 set-safe proposer ciphertext l td p h o =
     kept-cond (isSome (td .ciphertext)) _ _ (λ _. kept-failed h o)
@@ -102,14 +102,14 @@ module _ (net : NetworkInfo) (proposer : ℕ) where
   unfolding tryOutput SmallOption
   try-safe td p h o = with-try _ (with-start _ (λ td p h o. kept-going h o tt)) td p h o
 
-  pub store-safe : (sender share : ℕ) → share < 4294967296 → Safe SmallOption (storeShare net proposer sender share)
+  pub store-safe : (sender share : ℕ) → share < 0x1_0000_0000 → Safe SmallOption (storeShare net proposer sender share)
   unfolding storeShare SmallOption
   store-safe sender share l td p h o =
       let k = share-ok td sender share h l in
       kept-cond (isSender td sender) _ _ (λ _. kept-before (kept-going k o tt)) (λ _. try-safe _ p k o)
 
   -- a share message
-  pub handle-safe : (sender share : ℕ) → share < 4294967296 → Safe SmallOption (handleMessage net proposer sender share)
+  pub handle-safe : (sender share : ℕ) → share < 0x1_0000_0000 → Safe SmallOption (handleMessage net proposer sender share)
   unfolding handleMessage SmallOption
   handle-safe sender share l td p h o =
       kept-cond (td .terminated) _ _ (λ _. kept-going h o tt)

@@ -177,7 +177,7 @@ module _ (w : List ℕ) (ok : stateOk w ≡ true) where
 -- WHAT THE SECOND RUN NEEDS. Such a log is counted exactly, whatever words the first run was given; the test of the count is reply 10's;
 -- and the second run leaves the finished step in every table that has room for it
 pub record Exact (log : List Entry) : Type 0 where
-  pub few : length log < 4294967296
+  pub few : length log < 0x1_0000_0000
   pub count : (v : List ℕ) → putAll (out counting v) log .step ≡ exactOf log
   pub records : (v : List ℕ) → recordsOf (putAll (out counting v) log .step) ≡ 1 + length log
   pub test : (v : List ℕ) (room : ℕ) → leb (recordsOf (putAll (out counting v) log .step)) room ≡ leb (1 + length log) room
@@ -186,7 +186,7 @@ pub record Exact (log : List Entry) : Type 0 where
 
 log-exact : (log : List Entry) → length log ≤ logLimit → Exact log
 log-exact log h =
-    let few : length log < 4294967296 = omega arith in
+    let few : length log < 0x1_0000_0000 = omega arith in
     record {
       few = few;
       count = λ v. counts-exact log v few;

@@ -9,6 +9,7 @@ use lib.Dec.{eqb, leb}
 use lib.ListN.{length, getD, drop, replicate, length-replicate, List·getD-eq-default}
 use lib.Seq.{getD-append-add, getD-take, getD-drop}
 use borrow.Author.Tests.{eqb-true, eq-eqb, leb-true, leb-false, le-leb, lt-leb}
+use Rattle.steps.specs.Numbers.{lastEpoch}
 use Rattle.steps.specs.Table.{within}
 use Rattle.steps.proofs.Laws.{and-true}
 use Rattle.steps.proofs.Ranges.{and-both, zeros-at}
@@ -16,7 +17,7 @@ use Rattle.subset.specs.Words.{epochLength}
 use Rattle.subset.proofs.Ranges.{limit-some}
 use Rattle.epoch.proofs.RangesWords.{all-every}
 use Rattle.engine.specs.Schedule.{scheduleOk, usedFirst, usedSecond}
-use Rattle.engine.specs.State.{headerLength, inputAt, vacantAt, epochsAt, stateLength, lastEpoch, allHold, headerTests, headerInRange, epochWords, placeOf, stateOk}
+use Rattle.engine.specs.State.{headerLength, inputAt, vacantAt, epochsAt, stateLength, allHold, headerTests, headerInRange, epochWords, placeOf, stateOk}
 use Rattle.engine.specs.Create.{Numbers, numberTests, numbersOk, createdHeader, created, createReply, createState}
 use Rattle.engine.specs.Rule.{CreateInRange}
 use Rattle.engine.proofs.Bools.{test-holds}
@@ -112,8 +113,8 @@ unfolding scheduleOk usedFirst usedSecond
 schedule-kept k a b h = go (leb k 1) refl (eqb k 2) refl (eqb k 3) refl h
   where
     go : (t : Bool) → leb k 1 ≡ t → (u : Bool) → eqb k 2 ≡ u → (v : Bool) → eqb k 3 ≡ v
-        → cond t true (cond u (within 1 4294967295 a) (cond v (within 1 4294967295 (a + b)) false)) ≡ true
-        → cond t true (cond u (within 1 4294967295 (cond t 0 a)) (cond v (within 1 4294967295 (cond t 0 a + cond (leb k 2) 0 b)) false)) ≡ true
+        → cond t true (cond u (within 1 0xffff_ffff a) (cond v (within 1 0xffff_ffff (a + b)) false)) ≡ true
+        → cond t true (cond u (within 1 0xffff_ffff (cond t 0 a)) (cond v (within 1 0xffff_ffff (cond t 0 a + cond (leb k 2) 0 b)) false)) ≡ true
     go true _ u _ v _ h = refl
     go false _ true _ v _ h = h
     go false _ false _ true e h = rw (lt-leb k 2 (omega (arith, eqb-true k 3 e))) h

@@ -23,7 +23,8 @@ use Rattle.subset.specs.Proposal.{Moved, asksAgreement, asksBroadcast, afterBro
 use Rattle.subset.specs.Subset.{countAccepted, allComplete, atProposal, broadcastAt, agreementAt, voteFrom, votes, tryOutput as trySubset, propose as proposeSubset, handleMessage as handleSubset}
 use Rattle.epoch.specs.declared.SubsetHandlingStrategy.{SubsetHandlingStrategy}
 use Rattle.epoch.specs.declared.MessageContent.{MessageContent}
-use Rattle.epoch.specs.declared.MessageContent.the-variants.{Broadcast, Agreement, DecryptionShare}
+use Rattle.steps.specs.declared.reader.Content.the-variants.{Broadcast, Agreement}
+use Rattle.epoch.specs.declared.MessageContent.the-variants.{Subset, DecryptionShare}
 use Rattle.epoch.specs.Words.{isVacant, isComplete, isAccepted}
 use Rattle.epoch.specs.Epoch.{handlesNow, processDecryption, callEntry, inputCiphertext, sendDecryptionShare, handleDecryptionShare, finishAt, finishFrom, handleContribution, handleFrom, handleContributions, processSubset, handedUp, callSubset, propose as proposeEpoch, handleMessageContent}
 use Rattle.epoch.specs.Batch.{isReady, isRead, readAt, readFrom, outputBatchIn, outputBatch}
@@ -197,10 +198,10 @@ module _ (ok : ℕ → Bool) (error : ℕ) (ok-error : ok error ≡ true) where
     only-propose-subset w p =
         only-cond (isValidator net) (only-onward _ (only-broadcast-at 3 (net .«our_id») w p) (λ _ w q. only-try-subset w q)) (record { fails = tt })
 
-    pub only-subset : (content p : ℕ) (w : List ℕ) (t : Tape) → Only ok (handleSubset net error content p w t)
+    pub only-subset : (content : Content) (p : ℕ) (w : List ℕ) (t : Tape) → Only ok (handleSubset net error content p w t)
     unfolding handleSubset
-    only-subset content p w t =
-        only-onward _ (only-cond (eqb content 1) (only-broadcast-at 4 p w t) (only-agreement-at 5 p w t)) (λ _ w q. only-try-subset w q)
+    only-subset Broadcast p w t = only-onward _ (only-broadcast-at 4 p w t) (λ _ w q. only-try-subset w q)
+    only-subset Agreement p w t = only-onward _ (only-agreement-at 5 p w t) (λ _ w q. only-try-subset w q)
 
 -- AN EPOCH fails as these do, with 21 where the proposal is serialised
 module _ (ok : ℕ → Bool) (ok-24 : ok 24 ≡ true) (ok-25 : ok 25 ≡ true) (net : NetworkInfo) where
@@ -275,8 +276,7 @@ module _ (ok : ℕ → Bool) (ok-24 : ok 24 ≡ true) (ok-25 : ok 25 ≡ true) (
 
     pub only-content : ok 23 ≡ true → (sender p : ℕ) (c : MessageContent) (w : List ℕ) (t : Tape) → Only ok (handleMessageContent net strategy encrypted sender p c w t)
     unfolding handleMessageContent
-    only-content ok-23 sender p Broadcast w t = only-call _ w t (only-subset ok 23 ok-23 net 1 p w t)
-    only-content ok-23 sender p Agreement w t = only-call _ w t (only-subset ok 23 ok-23 net 2 p w t)
+    only-content ok-23 sender p (Subset content) w t = only-call _ w t (only-subset ok 23 ok-23 net content p w t)
     only-content ok-23 sender p (DecryptionShare share) w t = only-handle-share sender p share w t
 
 -- A BATCH does not fail

@@ -9,6 +9,7 @@ use mathlib.Core.Option.{Option, none, some}
 use lib.Dec.{eqb, leb, ltb}
 use lib.ListN.{length, set}
 use borrow.Author.Tests.{eqb-true, eqb-false, ltb-true, leb-true, leb-false}
+use Rattle.steps.specs.Numbers.{faultLimit, lastEpoch}
 use Rattle.steps.specs.declared.network_info.NetworkInfo.{NetworkInfo}
 use Rattle.steps.specs.Network.{Network}
 use Rattle.steps.specs.Answers.{Rec, tapeOf}
@@ -21,9 +22,10 @@ use Rattle.steps.proofs.Read13.{gives-out}
 use Rattle.subset.proofs.Taken.{Grown, grown-or}
 use Rattle.subset.proofs.Votes.{Voted}
 use Rattle.epoch.specs.declared.SubsetHandlingStrategy.{SubsetHandlingStrategy}
-use Rattle.epoch.specs.declared.MessageContent.the-variants.{Broadcast, Agreement, DecryptionShare}
+use Rattle.steps.specs.declared.reader.Content.the-variants.{Broadcast, Agreement}
+use Rattle.epoch.specs.declared.MessageContent.the-variants.{Subset, DecryptionShare}
 use Rattle.epoch.proofs.Told.{fivesAmong, shareOf, EpochLaws}
-use Rattle.engine.specs.State.{nodesAt, aheadAt, nodes, faulty, ahead, currentEpoch, faultCount, faultsAt, faultLimit, lastEpoch, netOf, strategyOf, encryptedIn, epochWords, stateOk}
+use Rattle.engine.specs.State.{nodesAt, aheadAt, nodes, faulty, ahead, currentEpoch, faultCount, faultsAt, netOf, strategyOf, encryptedIn, epochWords, stateOk}
 use Rattle.engine.specs.HoneyBadger.{skipToEpoch, propose, handleMessage}
 use Rattle.engine.specs.Calls.{countFaults, proposeCall, contentOk, contentOf, messageCall, skipReply, skipState}
 use Rattle.engine.specs.Laws.{Skipped}
@@ -111,7 +113,7 @@ share-is n content proposer item ok = by (eqb content 1) refl (eqb content 2) re
     high = leb-true content 3 (and-true (leb 1 content) (leb content 3) range .1)
 
     by : (a : Bool) → eqb content 1 ≡ a → (b : Bool) → eqb content 2 ≡ b → (c : Bool) → eqb content 3 ≡ c
-        → shareOf proposer (cond a Broadcast (cond b Agreement (DecryptionShare item))) ≡ cond c (some proposer) none
+        → shareOf proposer (cond a (Subset Broadcast) (cond b (Subset Agreement) (DecryptionShare item))) ≡ cond c (some proposer) none
     by true i b j true k = absurd (omega (arith, eqb-true content 1 i, eqb-true content 3 k))
     by true i b j false k = refl
     by false i true j true k = absurd (omega (arith, eqb-true content 2 j, eqb-true content 3 k))

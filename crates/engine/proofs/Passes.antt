@@ -7,12 +7,13 @@ use mathlib.Core.Bool.{Bool, true, false, cond, not, _&&_, false≢true}
 use lib.Dec.{eqb, leb, ltb}
 use lib.ListN.{length}
 use borrow.Author.Tests.{eqb-true, not-false, leb-true, leb-false, le-leb, lt-ltb}
+use Rattle.steps.specs.Numbers.{lastEpoch}
 use Rattle.steps.specs.Answers.{Rec, tapeOf}
 use Rattle.steps.specs.Steps.{written}
 use Rattle.steps.specs.Table.{tableOk}
 use Rattle.steps.specs.Runs.{Verdict, going, refused, failed, numberOf, Run}
 use Rattle.steps.proofs.Laws.{and-true}
-use Rattle.engine.specs.State.{nodes, currentEpoch, scratchOf, lastEpoch, stateOk}
+use Rattle.engine.specs.State.{nodes, currentEpoch, scratchOf, stateOk}
 use Rattle.engine.specs.HoneyBadger.{propose, handleMessage}
 use Rattle.engine.specs.Calls.{After, zeroed, countFaults, isEnd, concludeAs, conclude, proposeAfter, proposeCall, contentOk, itemOk, contentOf, messageCall, skipReply}
 use Rattle.engine.specs.Laws.{isRefusal, oneOf, proposeFailures, proposeReplies, messageFailures, messageReplies}

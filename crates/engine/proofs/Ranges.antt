@@ -7,6 +7,7 @@ use native.Mathlib.Omega.{arith}
 use lib.ListN.{length, set}
 use lib.Dec.{eqb, leb, ltb}
 use borrow.Author.Tests.{eqb-true, leb-true, ltb-true, ltb-false, not-false}
+use Rattle.steps.specs.Numbers.{lastEpoch, faultLimit}
 use Rattle.steps.specs.Network.{isValidator}
 use Rattle.steps.specs.Table.{handle, within, tableOk}
 use Rattle.steps.specs.Answers.{Tape, tapeOf}
@@ -16,11 +17,12 @@ use Rattle.steps.proofs.Laws.{and-true}
 use Rattle.steps.proofs.Ranges.{by-test, AllSmall, table-small, Kept, Any, kept-going, kept-failed, kept-before, kept-cond, kept-ask, kept-then, kept-inside}
 use Rattle.subset.proofs.Ranges.{SafeEpoch}
 use Rattle.epoch.specs.declared.MessageContent.{MessageContent}
-use Rattle.epoch.specs.declared.MessageContent.the-variants.{Broadcast, Agreement, DecryptionShare}
+use Rattle.steps.specs.declared.reader.Content.the-variants.{Broadcast, Agreement}
+use Rattle.epoch.specs.declared.MessageContent.the-variants.{Subset, DecryptionShare}
 use Rattle.epoch.specs.Words.{isVacant}
 use Rattle.epoch.specs.Batch.{isReady, outputBatch}
 use Rattle.epoch.proofs.Ranges.{ContentOk, new-epoch-ok, batch-safe, propose-safe, content-safe}
-use Rattle.engine.specs.State.{nodes, ahead, currentEpoch, faultCount, scratchOf, lastEpoch, faultLimit, inputAt, faultsAt, epochAt, netOf, strategyOf, encryptedIn, epochWords, withEpoch, withoutEpoch, stateOk}
+use Rattle.engine.specs.State.{nodes, ahead, currentEpoch, faultCount, scratchOf, inputAt, faultsAt, epochAt, netOf, strategyOf, encryptedIn, epochWords, withEpoch, withoutEpoch, stateOk}
 use Rattle.engine.specs.HoneyBadger.{updateEpoch, epochStateMut, inEpoch, tryOutputBatches, propose, handleMessage, clearBelow, skipToEpoch}
 use Rattle.engine.specs.Calls.{After, countFaults, isEnd, concludeAs, proposeAfter, messageCall, contentOk, itemOk, contentOf, skipReply, skipState}
 use Rattle.engine.specs.History.{propose as proposing, message as messaging, skip as skipping, stateAfter}
@@ -185,12 +187,12 @@ module _ (w : List ℕ) (ok : stateOk w ≡ true) where
   unfolding itemOk contentOf ContentOk
   content-ok content item e = by (eqb content 1) (eqb content 2) e
     where
-      by : (x y : Bool) → cond (eqb content 3) (handle item) (eqb item 0) ≡ true → ContentOk (cond x Broadcast (cond y Agreement (DecryptionShare item)))
+      by : (x y : Bool) → cond (eqb content 3) (handle item) (eqb item 0) ≡ true → ContentOk (cond x (Subset Broadcast) (cond y (Subset Agreement) (DecryptionShare item)))
       by true y h = tt
       by false true h = tt
       by false false h =
           by-test (eqb content 3) (handle item) (eqb item 0) h
-          (λ _ u. omega (arith, leb-true item 4294967295 (and-true (leb 1 item) _ u .1)))
+          (λ _ u. omega (arith, leb-true item 0xffff_ffff (and-true (leb 1 item) _ u .1)))
           (λ _ u. omega (arith, eqb-true item 0 u))
 
   proposer-known : (content proposer : ℕ) → contentOk (nodes w) content proposer ≡ true → proposer < nodes w

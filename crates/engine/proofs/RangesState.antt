@@ -9,6 +9,7 @@ use lib.ListN.{length, getD, set, take, drop}
 use lib.Seq.{getD-set-same, getD-set-other}
 use lib.Dec.{eqb, leb}
 use borrow.Author.Tests.{eqb-true, eqb-false, leb-true, ltb-true, eq-eqb, le-leb}
+use Rattle.steps.specs.Numbers.{lastEpoch, faultLimit}
 use Rattle.steps.specs.Network.{Network}
 use Rattle.steps.proofs.Laws.{and-true}
 use Rattle.steps.proofs.Ranges.{and-both, below-zeros}
@@ -16,7 +17,7 @@ use Rattle.subset.specs.Words.{epochLength}
 use Rattle.subset.proofs.Ranges.{limitAt, limit-some, EpochOk}
 use Rattle.epoch.specs.Words.{epochInRange}
 use Rattle.epoch.proofs.RangesWords.{all-at, all-every, epoch-below, epoch-in}
-use Rattle.engine.specs.State.{headerLength, profileAt, nodesAt, faultyAt, aheadAt, ownAt, keyAt, strategyAt, scheduleAt, firstNumberAt, secondNumberAt, epochAt, inputAt, faultsAt, vacantAt, epochsAt, stateLength, lastEpoch, faultLimit, nodes, ahead, currentEpoch, input, faultCount, netOf, epochWords, withEpoch, withoutEpoch, allHold, headerTests, headerInRange, epochsInRange, stateOk}
+use Rattle.engine.specs.State.{headerLength, profileAt, nodesAt, faultyAt, aheadAt, ownAt, keyAt, strategyAt, scheduleAt, firstNumberAt, secondNumberAt, epochAt, inputAt, faultsAt, vacantAt, epochsAt, stateLength, nodes, ahead, currentEpoch, input, faultCount, netOf, epochWords, withEpoch, withoutEpoch, allHold, headerTests, headerInRange, epochsInRange, stateOk}
 use Rattle.engine.proofs.Bools.{test-holds}
 use Rattle.engine.proofs.Window.{Shaped, header-first, words-are, words-long, with-head, with-shaped, with-place, with-other, set-shaped, set-words}
 

@@ -8,10 +8,11 @@ use lib.Dec.{eqb, leb, ltb}
 use lib.ListN.{length, getD, drop, replicate, length-append, length-drop, length-replicate, getD-replicate, List·getD-append}
 use lib.Seq.{drop-at}
 use borrow.Author.Tests.{eqb-true, ltb-false, lt-leb, ne-eqb}
+use Rattle.steps.specs.Numbers.{lastEpoch}
 use Rattle.steps.specs.Answers.{tapeOf}
 use Rattle.steps.specs.Runs.{Verdict, going, refused, failed, numberOf, Run}
 use Rattle.steps.specs.Table.{tableOk}
-use Rattle.engine.specs.State.{nodes, currentEpoch, faultCount, scratchLength, scratchOf, lastEpoch, stateLength, stateOk}
+use Rattle.engine.specs.State.{nodes, currentEpoch, faultCount, scratchLength, scratchOf, stateLength, stateOk}
 use Rattle.engine.specs.HoneyBadger.{hasInput, receivedProposals}
 use Rattle.engine.specs.Calls.{After, after, zeroed, isEnd, concludeAs, conclude, proposeAfter, proposeCall, contentOk, itemOk, messageCall, skipReply, skipState, queryReply, currentEpochResult, hasInputResult, receivedProposalsResult, faultCountResult}
 use Rattle.engine.specs.Create.{Numbers, numbersOk, createReply, createState}

@@ -8,12 +8,13 @@ use lib.ListN.{set}
 use lib.Seq.{set-getD}
 use lib.Dec.{ltb}
 use borrow.Author.Tests.{le-leb}
+use Rattle.steps.specs.Numbers.{faultLimit}
 use Rattle.steps.specs.Network.{isValidator}
 use Rattle.steps.specs.Answers.{Tape}
 use Rattle.steps.specs.Steps.{fault, faults}
 use Rattle.steps.specs.Runs.{going, Run, ends, before, inside}
 use Rattle.epoch.specs.declared.MessageContent.{MessageContent}
-use Rattle.engine.specs.State.{ahead, currentEpoch, faultCount, inputAt, faultsAt, faultLimit, netOf, stateOk}
+use Rattle.engine.specs.State.{ahead, currentEpoch, faultCount, inputAt, faultsAt, netOf, stateOk}
 use Rattle.engine.specs.HoneyBadger.{propose, handleMessage}
 use Rattle.engine.specs.Calls.{countFaults, conclude}
 use Rattle.engine.specs.Work.{proposeWork, messageWork, committed, settled}

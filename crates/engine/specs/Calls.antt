@@ -4,13 +4,15 @@ use mathlib.Core.List.{List, [], _∷_, _++_}
 use mathlib.Core.Bool.{Bool, true, false, cond, _&&_, not}
 use lib.ListN.{length, set, drop, replicate}
 use lib.Dec.{eqb, leb, ltb}
+use Rattle.steps.specs.Numbers.{broadcastContent, agreementContent, shareContent, success, notAState, scratchTooShort, answersMalformed, epochTooHigh, messageMalformed, answersUnread, stepTableTooShort, unknownSender, targetTooHigh, lastEpoch, faultLimit}
 use Rattle.steps.specs.Table.{handle, within, tableOk}
 use Rattle.steps.specs.Answers.{Rec, tapeOf}
 use Rattle.steps.specs.Steps.{Entry, faults, written, writtenFailed}
 use Rattle.steps.specs.Runs.{Verdict, going, refused, failed, numberOf, Run}
 use Rattle.epoch.specs.declared.MessageContent.{MessageContent}
-use Rattle.epoch.specs.declared.MessageContent.the-variants.{Broadcast, Agreement, DecryptionShare}
-use Rattle.engine.specs.State.{nodes, currentEpoch, faultCount, scratchOf, lastEpoch, faultsAt, faultLimit, stateOk}
+use Rattle.steps.specs.declared.reader.Content.the-variants.{Broadcast, Agreement}
+use Rattle.epoch.specs.declared.MessageContent.the-variants.{Subset, DecryptionShare}
+use Rattle.engine.specs.State.{nodes, currentEpoch, faultCount, scratchOf, faultsAt, stateOk}
 use Rattle.engine.specs.HoneyBadger.{propose, handleMessage, skipToEpoch, hasInput, receivedProposals}
 
 -- a call's reply, and the lent words afterwards
@@ -43,14 +45,14 @@ unfoldable pub concludeAs : Verdict (Unit {0}) → Run (List ℕ) (Unit {0}) →
 concludeAs refused r epoch state scratch step = after (numberOf {A = Unit {0}} refused) state scratch step
 concludeAs (going a) r epoch state scratch step =
     -- "9: answers remain unread"
-    cond (not (isEnd (r .tape .rest))) (after 9 state scratch step)
+    cond (not (isEnd (r .tape .rest))) (after answersUnread state scratch step)
     -- "10: the step table has fewer whole records than the step"
-    (cond (ltb (length step / 4) (1 + length (r .log))) (after 10 state scratch step)
+    (cond (ltb (length step / 4) (1 + length (r .log))) (after stepTableTooShort state scratch step)
     (after (numberOf (going a)) (countFaults (r .state) (r .log)) scratch (written step (r .log) epoch)))
 concludeAs (failed error) r epoch state scratch step =
-    cond (not (isEnd (r .tape .rest))) (after 9 state scratch step)
+    cond (not (isEnd (r .tape .rest))) (after answersUnread state scratch step)
     -- "and 10 if no header fits"
-    (cond (ltb (length step / 4) 1) (after 10 state scratch step)
+    (cond (ltb (length step / 4) 1) (after stepTableTooShort state scratch step)
     (after (numberOf {A = Unit {0}} (failed error)) (r .state) scratch (writtenFailed step epoch)))
 
 abbrev pub conclude : Run (List ℕ) (Unit {0}) → ℕ → List ℕ → List ℕ → List ℕ → After
@@ -58,23 +60,24 @@ conclude r epoch state scratch step = concludeAs (r .verdict) r epoch state scra
 
 -- "7: content not 1 broadcast, 2 agreement, 3 share; proposer ≥ N; […]"
 unfoldable pub contentOk : ℕ → ℕ → ℕ → Bool
-contentOk n content proposer = within 1 3 content && ltb proposer n
+contentOk n content proposer = within broadcastContent shareContent content && ltb proposer n
 
 -- "7: […] item not 0 for contents 1 and 2, or not a handle for 3"
 unfoldable pub itemOk : ℕ → ℕ → Bool
-itemOk content item = cond (eqb content 3) (handle item) (eqb item 0)
+itemOk content item = cond (eqb content shareContent) (handle item) (eqb item 0)
 
 unfoldable pub contentOf : ℕ → ℕ → MessageContent
-contentOf content item = cond (eqb content 1) Broadcast (cond (eqb content 2) Agreement (DecryptionShare item))
+contentOf content item =
+    cond (eqb content broadcastContent) (Subset Broadcast) (cond (eqb content agreementContent) (Subset Agreement) (DecryptionShare item))
 
 module _ (state scratch answers step : List ℕ) where
   -- propose with one more check: 3, 4, 5, 6, then the reply g where it is not 0, then the run
   unfoldable pub proposeAfter : ℕ → After
   proposeAfter g =
-      cond (not (stateOk state)) (after 3 state scratch step)
-      (cond (ltb (length scratch) (scratchOf state)) (after 4 state scratch step)
-      (cond (not (tableOk (nodes state) answers)) (after 5 state (zeroed state scratch) step)
-      (cond (ltb lastEpoch (currentEpoch state)) (after 6 state (zeroed state scratch) step)
+      cond (not (stateOk state)) (after notAState state scratch step)
+      (cond (ltb (length scratch) (scratchOf state)) (after scratchTooShort state scratch step)
+      (cond (not (tableOk (nodes state) answers)) (after answersMalformed state (zeroed state scratch) step)
+      (cond (ltb lastEpoch (currentEpoch state)) (after epochTooHigh state (zeroed state scratch) step)
       (cond (not (eqb g 0)) (after g state (zeroed state scratch) step)
       (conclude (propose state (tapeOf answers)) (currentEpoch state) state (zeroed state scratch) step)))))
 
@@ -86,25 +89,25 @@ module _ (state scratch answers step : List ℕ) where
     -- message: checks 3, 4, 5, 11, 7, 6, then the run
     unfoldable pub messageCall : After
     messageCall =
-        cond (not (stateOk state)) (after 3 state scratch step)
-        (cond (ltb (length scratch) (scratchOf state)) (after 4 state scratch step)
-        (cond (not (tableOk (nodes state) answers)) (after 5 state (zeroed state scratch) step)
-        (cond (leb (nodes state) sender) (after 11 state (zeroed state scratch) step)
-        (cond (not (contentOk (nodes state) content proposer)) (after 7 state (zeroed state scratch) step)
-        (cond (not (itemOk content item)) (after 7 state (zeroed state scratch) step)
-        (cond (ltb lastEpoch (currentEpoch state)) (after 6 state (zeroed state scratch) step)
+        cond (not (stateOk state)) (after notAState state scratch step)
+        (cond (ltb (length scratch) (scratchOf state)) (after scratchTooShort state scratch step)
+        (cond (not (tableOk (nodes state) answers)) (after answersMalformed state (zeroed state scratch) step)
+        (cond (leb (nodes state) sender) (after unknownSender state (zeroed state scratch) step)
+        (cond (not (contentOk (nodes state) content proposer)) (after messageMalformed state (zeroed state scratch) step)
+        (cond (not (itemOk content item)) (after messageMalformed state (zeroed state scratch) step)
+        (cond (ltb lastEpoch (currentEpoch state)) (after epochTooHigh state (zeroed state scratch) step)
         (conclude (handleMessage sender epoch proposer (contentOf content item) state (tapeOf answers)) epoch state (zeroed state scratch) step)))))))
 
 -- skip: its reply, and the state afterwards. "12: target above 2^62. No step."
 unfoldable pub skipReply : ℕ → List ℕ → ℕ
-skipReply target w = cond (not (stateOk w)) 3 (cond (ltb lastEpoch target) 12 0)
+skipReply target w = cond (not (stateOk w)) notAState (cond (ltb lastEpoch target) targetTooHigh success)
 
 unfoldable pub skipState : ℕ → List ℕ → List ℕ
-skipState target w = cond (eqb (skipReply target w) 0) (skipToEpoch target w) w
+skipState target w = cond (eqb (skipReply target w) success) (skipToEpoch target w) w
 
 -- queries: reply 3 or 0, and the result, untouched where the reply is 3
 unfoldable pub queryReply : List ℕ → ℕ
-queryReply w = cond (stateOk w) 0 3
+queryReply w = cond (stateOk w) success notAState
 
 unfoldable pub currentEpochResult : List ℕ → ℕ → ℕ
 currentEpochResult w result = cond (stateOk w) (currentEpoch w) result

@@ -7,6 +7,7 @@ use mathlib.Core.List.{List, [], _∷_, _++_, List·Memᴰ}
 use mathlib.Core.Bool.{Bool, true}
 use mathlib.Core.Option.{Option, some}
 use lib.ListN.{length}
+use Rattle.steps.specs.Numbers.{contributionDecrypted}
 use Rattle.steps.specs.Taken.{thirteensIn}
 use Rattle.engine.specs.Schedule.{scheduleOf, useOnEpoch}
 use Rattle.engine.specs.Create.{Numbers, createReply, createState}
@@ -22,7 +23,7 @@ TookAlike took₁ took₂ = (e p x y : ℕ) → took₁ e p ≡ some x → took�
 abbrev pub ReadAlike : List Reading → Type 0
 ReadAlike rs =
     (x y : Reading) → List·Memᴰ x rs → List·Memᴰ y rs → x .kind ≡ y .kind → x .subject ≡ y .subject
-    → (x .a ≡ y .a) × (x .kind ≡ 12 → x .b ≡ y .b)
+    → (x .a ≡ y .a) × (x .kind ≡ contributionDecrypted → x .b ≡ y .b)
 
 -- CONCLUSIONS
 

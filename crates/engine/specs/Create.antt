@@ -4,9 +4,10 @@ use mathlib.Core.List.{List, [], _∷_, _++_}
 use mathlib.Core.Bool.{Bool, cond, not}
 use lib.ListN.{length, replicate}
 use lib.Dec.{eqb, leb, ltb}
+use Rattle.steps.specs.Numbers.{success, numbersOutOfRange, wrongStateLength, lastEpoch}
 use Rattle.steps.specs.Table.{within}
 use Rattle.engine.specs.Schedule.{scheduleOk, usedFirst, usedSecond}
-use Rattle.engine.specs.State.{stateLength, lastEpoch, allHold}
+use Rattle.engine.specs.State.{stateLength, allHold}
 
 -- the ten numbers, in the order of the interface
 pub record Numbers : Type 0 where
@@ -51,7 +52,8 @@ created c = createdHeader c ++ replicate (stateLength (c .nodes) (c .ahead) - le
 
 -- "Then 2: state length is not 16 + (F+1) × (16 + N × (8+N)) words."
 unfoldable pub createReply : Numbers → List ℕ → ℕ
-createReply c w = cond (not (numbersOk c)) 1 (cond (eqb (length w) (stateLength (c .nodes) (c .ahead))) 0 2)
+createReply c w =
+    cond (not (numbersOk c)) numbersOutOfRange (cond (eqb (length w) (stateLength (c .nodes) (c .ahead))) success wrongStateLength)
 
 unfoldable pub createState : Numbers → List ℕ → List ℕ
-createState c w = cond (eqb (createReply c w) 0) (created c) w
+createState c w = cond (eqb (createReply c w) success) (created c) w

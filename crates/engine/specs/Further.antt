@@ -36,8 +36,8 @@ case-14 =
     ∷ (message 0 0 1 4 0 (answers []) (nines 8) ⇒ 7 ∷ nines 8)
     ∷ (message 0 0 2 1 1 (answers []) (nines 8) ⇒ 7 ∷ nines 8)
     ∷ (message 0 0 3 1 0 (answers []) (nines 8) ⇒ 7 ∷ nines 8)
-    ∷ (message 0 0 3 1 4294967296 (answers []) (nines 8) ⇒ 7 ∷ nines 8)
-    ∷ (message 0 0 3 1 4294967295 (answers (yes 1 0 ∷ [])) (nines 8) ⇒ passes)
+    ∷ (message 0 0 3 1 0x1_0000_0000 (answers []) (nines 8) ⇒ 7 ∷ nines 8)
+    ∷ (message 0 0 3 1 0xffff_ffff (answers (yes 1 0 ∷ [])) (nines 8) ⇒ passes)
     -- 6: the current epoch is above 2^62; a skip's target at or below it changes nothing
     ∷ (putWord 10 4611686018427387905 ⇒ [])
     ∷ (message 0 0 4 1 0 (answers []) (nines 8) ⇒ 7 ∷ nines 8)
@@ -51,9 +51,9 @@ case-14 =
     -- the fault count stops at 2^32−1
     ∷ (putWord 12 4294967294 ⇒ [])
     ∷ (message 0 4611686018427387905 1 1 0 (answers []) (nines 8) ⇒ 0 ∷ rec 0 1 0 4611686018427387905 ++ rec 0 1 0 0)
-    ∷ (faultCount ⇒ 0 ∷ 4294967295 ∷ [])
+    ∷ (faultCount ⇒ 0 ∷ 0xffff_ffff ∷ [])
     ∷ (message 0 4611686018427387905 1 1 0 (answers []) (nines 8) ⇒ 0 ∷ rec 0 1 0 4611686018427387905 ++ rec 0 1 0 0)
-    ∷ (faultCount ⇒ 0 ∷ 4294967295 ∷ [])
+    ∷ (faultCount ⇒ 0 ∷ 0xffff_ffff ∷ [])
     -- 4: scratch is one word short. Of a longer one the state's length is zeroed
     ∷ (proposeWith 79 (answers (yes 14 0 ∷ [])) (nines 4) ⇒ 4 ∷ nines 79 ++ nines 4)
     ∷ (proposeWith 82 (answers (yes 14 0 ∷ [])) (nines 4) ⇒ 5 ∷ replicate 80 0 ++ nines 2 ++ nines 4)
@@ -107,9 +107,9 @@ case-16 =
     ∷ (create (numbers 4 1 0 4 0 0 4611686018427387905 0 0 0) 80 ⇒ 1 ∷ [])
     ∷ (create (numbers 4 1 0 4 0 0 0 4 1 1) 80 ⇒ 1 ∷ [])
     ∷ (create (numbers 4 1 0 4 0 0 0 2 0 1) 80 ⇒ 1 ∷ [])
-    ∷ (create (numbers 4 1 0 4 0 0 0 2 4294967296 1) 80 ⇒ 1 ∷ [])
+    ∷ (create (numbers 4 1 0 4 0 0 0 2 0x1_0000_0000 1) 80 ⇒ 1 ∷ [])
     ∷ (create (numbers 4 1 0 4 0 0 0 3 0 0) 80 ⇒ 1 ∷ [])
-    ∷ (create (numbers 4 1 0 4 0 0 0 3 4294967295 1) 80 ⇒ 1 ∷ [])
+    ∷ (create (numbers 4 1 0 4 0 0 0 3 0xffff_ffff 1) 80 ⇒ 1 ∷ [])
     -- a refusal leaves the words lent, and numbers that a kind does not use are ignored
     ∷ (wordAt 0 ⇒ 9 ∷ [])
     ∷ (create (numbers 4 1 0 4 0 0 0 2 3 7) 80 ⇒ 0 ∷ [])

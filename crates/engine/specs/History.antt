@@ -5,6 +5,7 @@ use mathlib.Core.Bool.{Bool, true, false, cond, _&&_, _||_}
 use mathlib.Core.Option.{Option, none, some}
 use lib.ListN.{length, take, drop}
 use lib.Dec.{eqb, leb, ltb}
+use Rattle.steps.specs.Numbers.{shareContent, success, ciphertextReads, ciphertextVerifies, contributionDecrypted, contributionReads}
 use Rattle.steps.specs.Table.{within}
 use Rattle.steps.specs.Answers.{Rec, tapeOf}
 use Rattle.steps.specs.Batches.{BatchEntry, Batch, batchesOf, fivesOf}
@@ -83,7 +84,7 @@ event current isMessage epoch shareOf answers step =
 unfoldable pub eventsOf : ℕ → Call → List ℕ → List Event
 eventsOf current (propose scratch answers step₀) step = event current false current none answers step ∷ []
 eventsOf current (message sender epoch content proposer item scratch answers step₀) step =
-    event current true epoch (cond (eqb content 3) (some proposer) none) answers step ∷ []
+    event current true epoch (cond (eqb content shareContent) (some proposer) none) answers step ∷ []
 eventsOf current (skip target) step = []
 
 -- "each batch handed out adds one, each skip raises it to its target if higher"
@@ -95,8 +96,8 @@ currentAfter current (skip target) step = max current target
 unfoldable pub history : ℕ → List Turn → List Event
 history current [] = []
 history current (t ∷ ts) =
-    cond (eqb (t .reply) 0) (eventsOf current (t .call) (t .step)) []
-    ++ history (cond (eqb (t .reply) 0) (currentAfter current (t .call) (t .step)) current) ts
+    cond (eqb (t .reply) success) (eventsOf current (t .call) (t .step)) []
+    ++ history (cond (eqb (t .reply) success) (currentAfter current (t .call) (t .step)) current) ts
 
 -- WHAT WAS TAKEN: "In an epoch, the value taken for a proposer is […]; the decision is the same of kinds 5 to 7"
 unfoldable pub taken : (ℕ → Bool) → List Event → ℕ → ℕ → Option ℕ
@@ -210,8 +211,8 @@ valueOf value (some p) = value p
 -- "Kinds 8 and 9 concern their proposer's value", a 12 that of the proposer that it concerns. `value` gives the values taken in the epoch
 unfoldable pub readingsAt : (ℕ → Option ℕ) → Option ℕ → Rec → List Reading
 readingsAt value who r =
-    cond (within 8 9 (r .kind)) (readingOf (r .kind) (value (r .b)) r)
-    (cond (eqb (r .kind) 12) (readingOf 12 (valueOf value who) r) [])
+    cond (within ciphertextReads ciphertextVerifies (r .kind)) (readingOf (r .kind) (value (r .b)) r)
+    (cond (eqb (r .kind) contributionDecrypted) (readingOf contributionDecrypted (valueOf value who) r) [])
 
 unfoldable pub readingsIn : (ℕ → Option ℕ) → Option ℕ → List Rec → List Reading
 readingsIn value who [] = []
@@ -220,7 +221,7 @@ readingsIn value who (r ∷ rs) = readingsAt value who r ++ readingsIn value (co
 -- a 13 concerns the plaintext of the proposer that it names, in its batch's epoch
 unfoldable pub readingsOf13 : (ℕ → Option ℕ) → List Rec → List Reading
 readingsOf13 text [] = []
-readingsOf13 text (r ∷ rs) = readingOf 13 (text (r .b)) r ++ readingsOf13 text rs
+readingsOf13 text (r ∷ rs) = readingOf contributionReads (text (r .b)) r ++ readingsOf13 text rs
 
 unfoldable pub readingsOfBatches : (ℕ → Bool) → List Event → List Handed → List Reading
 readingsOfBatches encrypted h [] = []

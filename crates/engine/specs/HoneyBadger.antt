@@ -4,6 +4,7 @@ use mathlib.Core.List.{List, [], _∷_}
 use mathlib.Core.Bool.{Bool, true, false, cond, _||_, not}
 use lib.ListN.{set}
 use lib.Dec.{eqb, leb, ltb}
+use Rattle.steps.specs.Numbers.{instancesBuilt, unexpectedHbMessageEpoch, createSubset}
 use Rattle.steps.specs.Network.{isValidator}
 use Rattle.steps.specs.Answers.{Tape, ask}
 use Rattle.steps.specs.Steps.{fault}
@@ -22,8 +23,8 @@ updateEpoch w = set (set (withoutEpoch w (currentEpoch w)) epochAt (currentEpoch
 unfoldable pub epochStateMut : ℕ → List ℕ → Tape → Run (List ℕ) (Unit {0})
 epochStateMut epoch w p =
     cond (isVacant (epochWords w epoch))
-    (heard (ask p 1) w (λ a b q.
-    cond (eqb a 0) (ends (failed 20) w q) (ends (going tt) (withEpoch w epoch (newEpoch (nodes w))) q)))
+    (heard (ask p instancesBuilt) w (λ a b q.
+    cond (eqb a 0) (ends (failed createSubset) w q) (ends (going tt) (withEpoch w epoch (newEpoch (nodes w))) q)))
     (ends (going tt) w p)
 
 -- a call of one epoch, on its words
@@ -56,7 +57,7 @@ propose w p =
 unfoldable pub handleMessage : ℕ → ℕ → ℕ → MessageContent → List ℕ → Tape → Run (List ℕ) (Unit {0})
 handleMessage sender epoch proposer content w p =
     -- beyond the look-ahead: fault 1
-    cond (ltb (currentEpoch w + ahead w) epoch) (before (fault 1 sender 0 ∷ []) (ends (going tt) w p))
+    cond (ltb (currentEpoch w + ahead w) epoch) (before (fault unexpectedHbMessageEpoch sender 0 ∷ []) (ends (going tt) w p))
     -- late: discarded
     (cond (ltb epoch (currentEpoch w)) (ends (going tt) w p)
     (onward (epochStateMut epoch w p) (λ _ w q.

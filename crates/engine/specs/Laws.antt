@@ -6,6 +6,7 @@ use mathlib.Core.List.{List, [], _∷_}
 use mathlib.Core.Bool.{Bool, true, false, cond}
 use lib.ListN.{length, getD, replicate}
 use lib.Dec.{eqb}
+use Rattle.steps.specs.Numbers.{success, notAState, scratchTooShort, answersMalformed, epochTooHigh, messageMalformed, answerNotNext, answersUnread, stepTableTooShort, unknownSender, createSubset, proposeBincode, inputSubset, handleSubsetMessage, decryption, multipleInputs}
 use Rattle.steps.specs.Table.{within}
 use Rattle.subset.specs.Words.{epochLength}
 use Rattle.engine.specs.State.{headerLength, nodes, ahead, currentEpoch, input, scratchOf, epochAt, inputAt, epochWords}
@@ -21,17 +22,21 @@ oneOf (y ∷ ys) x = cond (eqb x y) true (oneOf ys x)
 
 -- "Failures: 20 `CreateSubset`, 21 `ProposeBincode`, 22 `InputSubset`, 24 `Decryption`, 25 `MultipleInputs`"
 abbrev pub proposeFailures : List ℕ
-proposeFailures = 20 ∷ 21 ∷ 22 ∷ 24 ∷ 25 ∷ []
+proposeFailures = createSubset ∷ proposeBincode ∷ inputSubset ∷ decryption ∷ multipleInputs ∷ []
 
 abbrev pub proposeReplies : List ℕ
-proposeReplies = 0 ∷ 3 ∷ 4 ∷ 5 ∷ 6 ∷ 8 ∷ 9 ∷ 10 ∷ proposeFailures
+proposeReplies =
+    success ∷ notAState ∷ scratchTooShort ∷ answersMalformed ∷ epochTooHigh ∷ answerNotNext ∷ answersUnread ∷ stepTableTooShort
+    ∷ proposeFailures
 
 -- "Failures 20, 23 `HandleSubsetMessage`, 24, 25."
 abbrev pub messageFailures : List ℕ
-messageFailures = 20 ∷ 23 ∷ 24 ∷ 25 ∷ []
+messageFailures = createSubset ∷ handleSubsetMessage ∷ decryption ∷ multipleInputs ∷ []
 
 abbrev pub messageReplies : List ℕ
-messageReplies = 0 ∷ 3 ∷ 4 ∷ 5 ∷ 6 ∷ 7 ∷ 8 ∷ 9 ∷ 10 ∷ 11 ∷ messageFailures
+messageReplies =
+    success ∷ notAState ∷ scratchTooShort ∷ answersMalformed ∷ epochTooHigh ∷ messageMalformed ∷ answerNotNext ∷ answersUnread
+    ∷ stepTableTooShort ∷ unknownSender ∷ messageFailures
 
 -- of a propose or message, whatever words are lent
 pub record Promised (replies state scratch step : List ℕ) (r : After) : Type 0 where
@@ -41,8 +46,8 @@ pub record Promised (replies state scratch step : List ℕ) (r : After) : Type 0
   pub refusal : isRefusal (r .reply) ≡ true → (r .state ≡ state) × (r .step ≡ step)
   -- "After any propose or message that passes 4, the first state-length words of scratch are zero, the rest untouched; before that all of it
   -- is untouched."
-  pub zeros : r .scratch ≡ cond (oneOf (3 ∷ 4 ∷ []) (r .reply)) scratch (zeroed state scratch)
-  pub room : oneOf (3 ∷ 4 ∷ []) (r .reply) ≡ false → scratchOf state ≤ length scratch
+  pub zeros : r .scratch ≡ cond (oneOf (notAState ∷ scratchTooShort ∷ []) (r .reply)) scratch (zeroed state scratch)
+  pub room : oneOf (notAState ∷ scratchTooShort ∷ []) (r .reply) ≡ false → scratchOf state ≤ length scratch
 
 -- of a skip from state w to an epoch above the current one, which leaves v
 pub record Skipped (target : ℕ) (w v : List ℕ) : Type 0 where

@@ -7,6 +7,7 @@ use mathlib.Core.List.{List, [], _∷_, _++_, List·Memᴰ}
 use mathlib.Core.Bool.{Bool, true, false, cond, _&&_, not}
 use mathlib.Core.Option.{Option, none, some}
 use lib.Dec.{eqb}
+use Rattle.steps.specs.Numbers.{agreementMessage, proposeTrue, proposeFalse, ciphertextReads}
 use Rattle.steps.specs.declared.network_info.NetworkInfo.{NetworkInfo}
 use Rattle.steps.specs.Network.{isValidator, numCorrect}
 use Rattle.steps.specs.Table.{within}
@@ -36,7 +37,7 @@ strategyIn m = strategyOf (createState (m .numbers) (m .words))
 
 -- the decision for p in x's epoch, as far as the answers 5 and 6 of x bring it: before the round of votes 0
 abbrev pub decidedBefore7 : List Event → Event → ℕ → Option ℕ
-decidedBefore7 h x p = orElse (decisionTaken h (x .epoch) p) (firstTaken (within 5 6) p (x .answers))
+decidedBefore7 h x p = orElse (decisionTaken h (x .epoch) p) (firstTaken (within agreementMessage proposeTrue) p (x .answers))
 
 -- the call of x comes to the subset of its epoch: a propose of a validator, or a message that is no share, for an epoch from the current
 -- one up to look-ahead more ("Epoch 5, F 3: 8 handled, 9 fault 1, 4 empty step.")
@@ -50,16 +51,16 @@ speaks net ahead x =
 pub record Votes (net : NetworkInfo) (ahead : ℕ) (h : List Event) (x : Event) : Type 0 where
   -- "a delivered value earns a vote 1 while its agreement is undecided": then, and only then, vote 1 is asked for
   pub one : (p : ℕ)
-      → asked 6 p (x .answers) ≡ (isThere (firstTaken ofValue p (x .answers)) && not (isThere (decisionTaken h (x .epoch) p)))
+      → asked proposeTrue p (x .answers) ≡ (isThere (firstTaken ofValue p (x .answers)) && not (isThere (decisionTaken h (x .epoch) p)))
   -- "N−f ones bring vote 0 to undecided agreements without a vote", in the Rust also to those with one, "again on each such call. Above: no
   -- vote.": in every call that comes to a subset with exactly N−f ones, and in no other
   pub zero : (p : ℕ) → p < net .«num_nodes»
-      → asked 7 p (x .answers)
+      → asked proposeFalse p (x .answers)
       ≡ (speaks net ahead x && (eqb (onesFrom (decidedBefore7 h x) (net .«num_nodes») 0) (numCorrect net) && not (isThere (decidedBefore7 h x p))))
   -- "No outside call is made in HasValue for broadcast, in Accepted for agreement, in Complete at all."
   pub broadcasts : (k p : ℕ) → ofValue k ≡ true → asked k p (x .answers) ≡ true
       → (valueTaken h (x .epoch) p ≡ none) × (decisionTaken h (x .epoch) p ≢ some 0)
-  pub agrees : (p : ℕ) → asked 5 p (x .answers) ≡ true → decisionTaken h (x .epoch) p ≡ none
+  pub agrees : (p : ℕ) → asked agreementMessage p (x .answers) ≡ true → decisionTaken h (x .epoch) p ≡ none
 
 pub record PaperRule (m : Made) : Type 0 where
   pub votes : (h : List Event) (x : Event) (l : List Event) → historyOf m ≡ h ++ (x ∷ l) → Votes (netIn m) (m .numbers .ahead) h x
@@ -91,12 +92,12 @@ pub record PaperRule (m : Made) : Type 0 where
   -- have asked kind 8 once about each proposer whose contribution has been handled and about no other, and never where the epoch is plain
   -- (a name at or above N is a malformed table, reply 5)
   pub eights : (e p : ℕ) → p < netIn m .«num_nodes»
-      → timesAskedIn 8 (historyOf m) e p
+      → timesAskedIn ciphertextReads (historyOf m) e p
       ≡ cond (encryptedOf m e && isHandled (netIn m) (strategyIn m) (valueTaken (historyOf m) e) (decisionTaken (historyOf m) e) p) 1 0
   -- in an epoch that is over, so in each one that is complete (`complete`) or was handed out (`handedOut`): about each proposer decided 1
   pub eightsOver : (e p : ℕ) → p < netIn m .«num_nodes»
       → isOver (netIn m) (valueTaken (historyOf m) e) (decisionTaken (historyOf m) e) ≡ true
-      → timesAskedIn 8 (historyOf m) e p ≡ cond (encryptedOf m e && isTrue (decisionTaken (historyOf m) e p)) 1 0
+      → timesAskedIn ciphertextReads (historyOf m) e p ≡ cond (encryptedOf m e && isTrue (decisionTaken (historyOf m) e p)) 1 0
 
 abbrev pub EngineRule : Type 0
 EngineRule = (m : Made) → Sound m → PaperRule m

@@ -24,8 +24,8 @@ useOnEpoch (TickTock on off) epoch = leb (epoch % (on + off)) on
 unfoldable pub scheduleOk : ℕ → ℕ → ℕ → Bool
 scheduleOk kind a b =
     cond (leb kind 1) true
-    (cond (eqb kind 2) (within 1 4294967295 a)
-    (cond (eqb kind 3) (within 1 4294967295 (a + b)) false))
+    (cond (eqb kind 2) (within 1 0xffff_ffff a)
+    (cond (eqb kind 3) (within 1 0xffff_ffff (a + b)) false))
 
 -- "schedule numbers a kind doesn't use are ignored": the state holds 0 for them
 unfoldable pub usedFirst : ℕ → ℕ → ℕ

@@ -4,6 +4,7 @@ use mathlib.Core.List.{List, [], _∷_, _++_}
 use mathlib.Core.Bool.{Bool, true, cond, _&&_, not}
 use lib.ListN.{length, getD, take, drop, replicate}
 use lib.Dec.{eqb, leb, ltb}
+use Rattle.steps.specs.Numbers.{lastEpoch, faultLimit}
 use Rattle.steps.specs.declared.network_info.NetworkInfo.{NetworkInfo}
 use Rattle.steps.specs.Table.{within}
 use Rattle.subset.specs.Words.{epochLength}
@@ -70,14 +71,6 @@ stateLength n ahead = epochsAt n + (ahead + 1) * epochLength n
 -- "4: scratch shorter than the state": how many words of it a call wants. No law knows the number but `scratch-is` of proofs/Refusals.antt
 unfoldable pub scratchLength : ℕ → ℕ → ℕ
 scratchLength n ahead = stateLength n ahead
-
--- the last epoch in which a call may run, 2^62
-abbrev pub lastEpoch : ℕ
-lastEpoch = 4611686018427387904
-
--- faults are counted up to 2^32 − 1
-abbrev pub faultLimit : ℕ
-faultLimit = 4294967295
 
 -- tests of which each must hold
 unfoldable pub allHold : List Bool → Bool

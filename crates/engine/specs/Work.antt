@@ -4,6 +4,7 @@ use Prim.Native.Nat.{ℕ, zero, suc, _+_}
 use mathlib.Core.List.{List}
 use mathlib.Core.Bool.{true, false, cond}
 use lib.Dec.{eqb}
+use Rattle.steps.specs.Numbers.{instancesBuilt, createSubset}
 use Rattle.steps.specs.Answers.{Tape, ask}
 use Rattle.steps.specs.Runs.{going, failed, Run, ends, onward, heard, inside}
 use Rattle.epoch.specs.declared.MessageContent.{MessageContent}
@@ -18,8 +19,8 @@ use Rattle.engine.specs.Calls.{After, conclude}
 unfoldable pub built : ℕ → List ℕ → Tape → Run (List ℕ) (Unit {0})
 built n x p =
     cond (isVacant x)
-    (heard (ask p 1) x (λ a b q.
-    cond (eqb a 0) (ends (failed 20) x q) (ends (going tt) (newEpoch n) q)))
+    (heard (ask p instancesBuilt) x (λ a b q.
+    cond (eqb a 0) (ends (failed createSubset) x q) (ends (going tt) (newEpoch n) q)))
     (ends (going tt) x p)
 
 unfoldable pub epochCall : ℕ → (List ℕ → Tape → Run (List ℕ) (Unit {0})) → List ℕ → Tape → Run (List ℕ) (Unit {0})

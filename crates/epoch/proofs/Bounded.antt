@@ -20,7 +20,7 @@ use Rattle.subset.specs.Words.{recordLength, countAt}
 use Rattle.subset.proofs.Bounded.{Writes, propose-writes as propose-subset, handle-writes as handle-subset}
 use Rattle.epoch.specs.declared.SubsetHandlingStrategy.{SubsetHandlingStrategy}
 use Rattle.epoch.specs.declared.MessageContent.{MessageContent}
-use Rattle.epoch.specs.declared.MessageContent.the-variants.{Broadcast, Agreement, DecryptionShare}
+use Rattle.epoch.specs.declared.MessageContent.the-variants.{Subset, DecryptionShare}
 use Rattle.epoch.specs.Words.{isComplete, isAccepted, DecryptionState, missing, ongoing, complete, loadDecryption, asks, decryptionAt, plaintextIn}
 use Rattle.epoch.specs.Epoch.{firstContributions, unexpectedFrom, unexpectedShares, handlesNow, processDecryption, callEntry, inputCiphertext, sendDecryptionShare, handleDecryptionShare, finishAt, finishFrom, handleContribution, handleFrom, handleContributions, processSubset, handedUp, callSubset, propose, handleMessageContent}
 use Rattle.epoch.specs.Batch.{isRead, readAt, readFrom, entriesFrom, outputBatchIn, outputBatch}
@@ -164,6 +164,5 @@ module _ (net : NetworkInfo) where
 
     pub content-writes : (sender p : ℕ) (content : MessageContent) → Writes (1 + atDone) (handleMessageContent net strategy encrypted sender p content)
     unfolding handleMessageContent
-    content-writes sender p Broadcast w tape = bounded-wider atDone (1 + atDone) tape _ (omega arith) (call-writes _ (handle-subset net 23 1 p) w tape)
-    content-writes sender p Agreement w tape = bounded-wider atDone (1 + atDone) tape _ (omega arith) (call-writes _ (handle-subset net 23 2 p) w tape)
+    content-writes sender p (Subset content) w tape = bounded-wider atDone (1 + atDone) tape _ (omega arith) (call-writes _ (handle-subset net 23 content p) w tape)
     content-writes sender p (DecryptionShare share) w tape = bounded-wider 1 (1 + atDone) tape _ (omega arith) (share-message-writes sender p share w tape)

@@ -31,7 +31,7 @@ use Rattle.subset.proofs.Calls.{Called}
 use Rattle.epoch.specs.declared.SubsetHandlingStrategy.{SubsetHandlingStrategy}
 use Rattle.epoch.specs.declared.SubsetHandlingStrategy.the-variants.{Incremental, AllAtEnd}
 use Rattle.epoch.specs.declared.MessageContent.{MessageContent}
-use Rattle.epoch.specs.declared.MessageContent.the-variants.{Broadcast, Agreement, DecryptionShare}
+use Rattle.epoch.specs.declared.MessageContent.the-variants.{Subset, DecryptionShare}
 use Rattle.epoch.specs.Words.{isComplete, isAccepted, missing, complete, loadEntry, loadDecryption, storeDecryption}
 use Rattle.epoch.proofs.Shares.{by-entry, by-share}
 use Rattle.epoch.specs.Epoch.{firstContributions, handlesNow, subsetComplete, proposalDropped, entryAfter, processDecryption, callEntry, inputCiphertext, sendDecryptionShare, handleDecryptionShare, finishAt, finishFrom, handleContribution, handleFrom, handleContributions, processSubset, handedUp, callSubset, propose, handleMessageContent}
@@ -43,7 +43,7 @@ use Rattle.epoch.proofs.Handled.{text-words, text-value, process-after,
 use Rattle.epoch.proofs.Contributions.{held-same, Contributed, contribution-ok, output-value}
 use Rattle.epoch.proofs.Finishing.{cut-word}
 use Rattle.epoch.proofs.Holds.{handledBy, Going, Done, Holds}
-use Rattle.epoch.proofs.Laws.{Subset, proposes, broadcasts, agrees, handled-ok, proposed-ok, settled-known}
+use Rattle.epoch.proofs.Laws.{SubsetLaws, proposes, handles, handled-ok, proposed-ok, settled-known}
 
 -- once, where a proposer is accepted in an encrypted epoch
 abbrev pub once : Bool → Bool → ℕ
@@ -257,7 +257,7 @@ module _ (net : NetworkInfo) (strategy : SubsetHandlingStrategy) (encrypted : Bo
           (text-value encrypted (loadDecryption nn w₁ q) (isAccepted w q) (v q) (c .v′ q) (t q) (c .linked .grownV q)
           (text-words encrypted nn w w₁ q (isAccepted w q) (v q) (t q) (λ j a b. f (recordAt nn q j) (outside-record nn q j a (omega arith))) (h .texts q l)))
 
-  subset-tallied : (comes : Bool) (call : List ℕ → Tape → Run (List ℕ) Bool) → Subset net comes call → (u : Tape) → Good nn (u .rest)
+  subset-tallied : (comes : Bool) (call : List ℕ → Tape → Run (List ℕ) Bool) → SubsetLaws net comes call → (u : Tape) → Good nn (u .rest)
       → After (callSubset net strategy encrypted call w u) (λ _ w′ z. Tallied encrypted nn w (u .rest) w′ (z .rest))
   unfolding callSubset
   subset-tallied comes call c u g = go (h .stage)
@@ -276,8 +276,7 @@ module _ (net : NetworkInfo) (strategy : SubsetHandlingStrategy) (encrypted : Bo
   handled-tallied : (sender p : ℕ) (content : MessageContent) (u : Tape) → Good nn (u .rest)
       → After (handleMessageContent net strategy encrypted sender p content w u) (λ _ w′ z. Tallied encrypted nn w (u .rest) w′ (z .rest))
   unfolding handleMessageContent
-  handled-tallied sender p Broadcast u g = subset-tallied _ (handleSubset net 23 1 p) (broadcasts net p) u g
-  handled-tallied sender p Agreement u g = subset-tallied _ (handleSubset net 23 2 p) (agrees net p) u g
+  handled-tallied sender p (Subset content) u g = subset-tallied _ (handleSubset net 23 content p) (handles net content p) u g
   handled-tallied sender p (DecryptionShare share) u g =
       after-map (handleDecryptionShare net sender p share w u) _ _ (share-unasked net p w u sender share) (λ _ w′ z k. unasked encrypted nn w (u .rest) w′ (z .rest) k)
 

@@ -11,6 +11,8 @@ use lib.ListN.{getD, replicate, length-replicate}
 use lib.Seq.{getD-set-same}
 use lib.Dec.{eqb}
 use borrow.Author.Tests.{eqb-true, eqb-false}
+use Rattle.steps.specs.declared.reader.Content.{Content}
+use Rattle.steps.specs.declared.reader.Content.the-variants.{Broadcast, Agreement}
 use Rattle.steps.specs.declared.network_info.NetworkInfo.{NetworkInfo}
 use Rattle.steps.specs.Network.{Network, isValidator}
 use Rattle.steps.specs.Answers.{Rec, Tape}
@@ -34,7 +36,7 @@ use Rattle.subset.proofs.Taken.{put-same, put-other, more, settled-decided}
 use Rattle.epoch.specs.declared.SubsetHandlingStrategy.{SubsetHandlingStrategy}
 use Rattle.epoch.specs.declared.SubsetHandlingStrategy.the-variants.{Incremental, AllAtEnd}
 use Rattle.epoch.specs.declared.MessageContent.{MessageContent}
-use Rattle.epoch.specs.declared.MessageContent.the-variants.{Broadcast, Agreement, DecryptionShare}
+use Rattle.epoch.specs.declared.MessageContent.the-variants.{Subset, DecryptionShare}
 use Rattle.epoch.specs.Words.{isComplete, isAccepted, missing, ongoing, complete, entryComplete, isSettled, isOpen, decryptionAt, plaintextAt, loadInstance, loadDecryption}
 use Rattle.epoch.specs.Epoch.{newEpoch, callEntry, handleDecryptionShare, processSubset, handedUp, callSubset, propose, handleMessageContent}
 use Rattle.epoch.specs.Batch.{decryptedFrom, isReadyIn, isRead, isReady}
@@ -194,25 +196,22 @@ module _ (net : NetworkInfo) (strategy : SubsetHandlingStrategy) (encrypted : Bo
       called-then (u .rest) done w₁ z g (a .0) (a .1 .0) (a .1 .1)))))
 
 -- any call of the subset
-pub record Subset (net : NetworkInfo) (comes : Bool) (call : List ℕ → Tape → Run (List ℕ) Bool) : Type 0 where
+pub record SubsetLaws (net : NetworkInfo) (comes : Bool) (call : List ℕ → Tape → Run (List ℕ) Bool) : Type 0 where
   pub called : (old : ℕ → Bool) (w : List ℕ) (v d : ℕ → Option ℕ) → Held old (net .«num_nodes») w v d → (u : Tape) → Good (net .«num_nodes») (u .rest)
       → getD w decidedAt 0 ≡ cond (isOver net v d) 1 0 → After (call w u) (λ done w₁ z. Called old net comes v d (u .rest) done w₁ (z .rest))
   pub orderly : (w : List ℕ) (u : Tape) → Orderly (Frame (net .«num_nodes») w) subsetKinds u (call w u)
 
-pub proposes : (net : NetworkInfo) → Subset net (isValidator net) (proposeSubset net 22)
+pub proposes : (net : NetworkInfo) → SubsetLaws net (isValidator net) (proposeSubset net 22)
 unfolding callRule speaks
 proposes net = record { called = λ old w v d h u g e. call-ok old net w v d h u g e proposing; orderly = λ w u. propose-subset-runs net 22 w w u (λ i o. refl) }
 
-pub broadcasts : (net : NetworkInfo) (p : ℕ) → Subset net true (handleSubset net 23 1 p)
+pub handles : (net : NetworkInfo) (content : Content) (p : ℕ) → SubsetLaws net true (handleSubset net 23 content p)
 unfolding callRule speaks
-broadcasts net p = record { called = λ old w v d h u g e. call-ok old net w v d h u g e (broadcasting p); orderly = λ w u. handle-subset-runs net 23 w 1 p w u (λ i o. refl) }
-
-pub agrees : (net : NetworkInfo) (p : ℕ) → Subset net true (handleSubset net 23 2 p)
-unfolding callRule speaks
-agrees net p = record { called = λ old w v d h u g e. call-ok old net w v d h u g e (agreeing p); orderly = λ w u. handle-subset-runs net 23 w 2 p w u (λ i o. refl) }
+handles net Broadcast p = record { called = λ old w v d h u g e. call-ok old net w v d h u g e (broadcasting p); orderly = λ w u. handle-subset-runs net 23 w _ p w u (λ i o. refl) }
+handles net Agreement p = record { called = λ old w v d h u g e. call-ok old net w v d h u g e (agreeing p); orderly = λ w u. handle-subset-runs net 23 w _ p w u (λ i o. refl) }
 
 module _ (net : NetworkInfo) (strategy : SubsetHandlingStrategy) (encrypted : Bool) (w : List ℕ) (v d t : ℕ → Option ℕ) (h : Holds net strategy encrypted w v d t) where
-  subset-ok : (comes : Bool) (call : List ℕ → Tape → Run (List ℕ) Bool) → Subset net comes call → (u : Tape) (who : Option ℕ) → Good (net .«num_nodes») (u .rest)
+  subset-ok : (comes : Bool) (call : List ℕ → Tape → Run (List ℕ) Bool) → SubsetLaws net comes call → (u : Tape) (who : Option ℕ) → Good (net .«num_nodes») (u .rest)
       → After (callSubset net strategy encrypted call w u) (λ _ w′ z. Told Holds net strategy encrypted v d t who comes (u .rest) w′ (z .rest))
   unfolding callSubset
   subset-ok comes call c u who g = go (h .stage)
@@ -241,8 +240,7 @@ module _ (net : NetworkInfo) (strategy : SubsetHandlingStrategy) (encrypted : Bo
   pub handled-ok : (sender p : ℕ) (content : MessageContent) → p < net .«num_nodes» → (u : Tape) → Good (net .«num_nodes») (u .rest)
       → After (handleMessageContent net strategy encrypted sender p content w u) (λ _ w′ z. Told Holds net strategy encrypted v d t (shareOf p content) (not (isThere (shareOf p content))) (u .rest) w′ (z .rest))
   unfolding handleMessageContent shareOf isThere
-  handled-ok sender p Broadcast l u g = subset-ok true (handleSubset net 23 1 p) (broadcasts net p) u none g
-  handled-ok sender p Agreement l u g = subset-ok true (handleSubset net 23 2 p) (agrees net p) u none g
+  handled-ok sender p (Subset content) l u g = subset-ok true (handleSubset net 23 content p) (handles net content p) u none g
   handled-ok sender p (DecryptionShare share) l u g = share-ok sender p share l u g
 
   pub proposed-ok : (u : Tape) → Good (net .«num_nodes») (u .rest)

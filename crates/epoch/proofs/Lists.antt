@@ -19,7 +19,7 @@ use Rattle.decryption.specs.declared.ThresholdDecrypt.{ThresholdDecrypt}
 use Rattle.subset.specs.Words.{statusAt, decidedAt, countAt, countOf, dropFrom}
 use Rattle.epoch.specs.declared.SubsetHandlingStrategy.the-variants.{Incremental}
 use Rattle.epoch.specs.declared.MessageContent.{MessageContent}
-use Rattle.epoch.specs.declared.MessageContent.the-variants.{Broadcast, Agreement, DecryptionShare}
+use Rattle.epoch.specs.declared.MessageContent.the-variants.{Subset, DecryptionShare}
 use Rattle.epoch.specs.Words.{isComplete, storeDecryption}
 use Rattle.epoch.specs.Epoch.{firstContributions, entryAfter, handlesNow, subsetComplete, processDecryption, finishAt, finishFrom, handleContributions, processSubset, handedUp, callSubset, propose, handleMessageContent}
 use Rattle.epoch.proofs.Entries.{store-low}
@@ -113,7 +113,6 @@ module _ (net : NetworkInfo) where
 
     pub content-none : (sender p : ℕ) (content : MessageContent) (w : List ℕ) (u : Tape) → NoneKept w → NoneKept (handleMessageContent net Incremental encrypted sender p content w u .state)
     unfolding handleMessageContent
-    content-none sender p Broadcast w u h = call-none _ w u h
-    content-none sender p Agreement w u h = call-none _ w u h
+    content-none sender p (Subset content) w u h = call-none _ w u h
     content-none sender p (DecryptionShare share) w u h =
         by-share net p w u (λ r. NoneKept (r .state)) sender share h (by-entry net p w u (λ r. NoneKept (r .state)) _ (process-none p w _ h) h)

@@ -10,6 +10,7 @@ use lib.Seq.{getD-set-other}
 use lib.Dec.{leb, ltb, eqb}
 use borrow.Author.Tests.{leb-true, le-leb, ne-eqb, lt-leb}
 use Rattle.steps.specs.declared.reader.Content.{Content}
+use Rattle.steps.specs.declared.reader.Content.the-variants.{Broadcast, Agreement}
 use Rattle.steps.specs.declared.network_info.NetworkInfo.{NetworkInfo}
 use Rattle.steps.specs.declared.reader.Output.{Output}
 use Rattle.steps.specs.declared.reader.Output.the-variants.{Missing, Value}
@@ -33,7 +34,7 @@ use Rattle.subset.specs.Subset.{allComplete, countAccepted, contributed, atProp
 use Rattle.subset.proofs.Frames.{differ, store-word}
 use Rattle.epoch.specs.declared.SubsetHandlingStrategy.{SubsetHandlingStrategy}
 use Rattle.epoch.specs.declared.MessageContent.{MessageContent}
-use Rattle.epoch.specs.declared.MessageContent.the-variants.{Broadcast, Agreement, DecryptionShare}
+use Rattle.epoch.specs.declared.MessageContent.the-variants.{Subset, DecryptionShare}
 use Rattle.epoch.specs.Words.{isComplete, isAccepted, DecryptionState, missing, ongoing, complete}
 use Rattle.epoch.specs.Epoch.{firstContributions, unexpectedFrom, unexpectedShares, handlesNow, processDecryption, callEntry, inputCiphertext, sendDecryptionShare, handleDecryptionShare, finishAt, finishFrom, handleContribution, handleFrom, handleContributions, processSubset, handedUp, callSubset, propose, handleMessageContent}
 use Rattle.epoch.proofs.Told.{Quiet}
@@ -234,12 +235,10 @@ module _ (net : NetworkInfo) (error : ℕ) (w₀ : List ℕ) where
       (orderly-onward _ _ (broadcast-at-runs 3 (net .«our_id») refl w u h) (λ _ w q h. try-runs w q h))
       (orderly-ends h)
 
-  pub handle-subset-runs : (content p : ℕ) → Runs (handleSubset net error content p)
+  pub handle-subset-runs : (content : Content) (p : ℕ) → Runs (handleSubset net error content p)
   unfolding handleSubset
-  handle-subset-runs content p w u h =
-      orderly-onward _ _
-      (orderly-cond (eqb content 1) _ _ (broadcast-at-runs 4 p refl w u h) (agreement-at-runs 5 p refl w u h))
-      (λ _ w q h. try-runs w q h)
+  handle-subset-runs Broadcast p w u h = orderly-onward _ _ (broadcast-at-runs 4 p refl w u h) (λ _ w q h. try-runs w q h)
+  handle-subset-runs Agreement p w u h = orderly-onward _ _ (agreement-at-runs 5 p refl w u h) (λ _ w q h. try-runs w q h)
 
 -- THRESHOLD DECRYPTION
 abbrev Decrypts : {A : Type 0} → (ThresholdDecrypt → Tape → Run ThresholdDecrypt A) → Type 0
@@ -410,8 +409,7 @@ module _ (net : NetworkInfo) where
 
     pub content-runs : (sender p : ℕ) (content : MessageContent) → Quietly (handleMessageContent net strategy encrypted sender p content)
     unfolding handleMessageContent
-    content-runs sender p Broadcast w u = call-runs _ w u (orderly-any (handle-subset-runs net 23 w 1 p w u (λ i o. refl)))
-    content-runs sender p Agreement w u = call-runs _ w u (orderly-any (handle-subset-runs net 23 w 2 p w u (λ i o. refl)))
+    content-runs sender p (Subset content) w u = call-runs _ w u (orderly-any (handle-subset-runs net 23 w content p w u (λ i o. refl)))
     content-runs sender p (DecryptionShare share) w u = share-message-runs sender p share w u
 
 -- THE EPOCH'S TWO CALLS ARE QUIET

@@ -17,7 +17,7 @@ use Rattle.subset.specs.Words.{recordLength, epochLength, statusAt, decidedAt, 
 use Rattle.subset.proofs.Ranges.{limitAt, limit-some, EpochOk, set-own, field-below, drop-ok, SafeEpoch, propose-safe as propose-subset-safe, handle-safe as handle-subset-safe}
 use Rattle.epoch.specs.declared.SubsetHandlingStrategy.{SubsetHandlingStrategy}
 use Rattle.epoch.specs.declared.MessageContent.{MessageContent}
-use Rattle.epoch.specs.declared.MessageContent.the-variants.{Broadcast, Agreement, DecryptionShare}
+use Rattle.epoch.specs.declared.MessageContent.the-variants.{Subset, DecryptionShare}
 use Rattle.epoch.specs.Words.{isComplete, isAccepted, missing, complete}
 use Rattle.epoch.specs.Epoch.{newEpoch, firstContributions, entryAfter, handlesNow, subsetComplete, proposalDropped, processDecryption, callEntry, inputCiphertext, sendDecryptionShare, handleDecryptionShare, finishAt, finishFrom, handleContribution, handleFrom, handleContributions, processSubset, handedUp, callSubset, propose, handleMessageContent}
 use Rattle.epoch.specs.Batch.{isRead, readAt, readFrom, outputBatchIn, outputBatch}
@@ -26,9 +26,8 @@ use Rattle.epoch.proofs.RangesWords.{EntryOk, load-entry-ok, store-entr
 
 -- a share that comes in a message is a handle
 unfoldable pub ContentOk : MessageContent → Type 0
-ContentOk Broadcast = Unit {0}
-ContentOk Agreement = Unit {0}
-ContentOk (DecryptionShare share) = share < 4294967296
+ContentOk (Subset content) = Unit {0}
+ContentOk (DecryptionShare share) = share < 0x1_0000_0000
 
 entry-after-ok : (v : Verdict (Option ℕ)) (td : ThresholdDecrypt) → InstanceOk td → Says SmallOption v → EntryOk (entryAfter v td)
 unfolding entryAfter EntryOk Says SmallOption
@@ -90,20 +89,20 @@ module _ (net : NetworkInfo) (some : 0 < net .«num_nodes») (few : net .«num_n
       by-entry net p w tape (Kept (EpochOk (net .«num_nodes»)) Any) call
       (process-safe p w _ h (s _ tape (load-entry-ok (net .«num_nodes») p w few h) o)) (kept-going h o tt)
 
-  input-safe : (p value : ℕ) → value < 4294967296 → Safe SmallOption (inputCiphertext net p value)
+  input-safe : (p value : ℕ) → value < 0x1_0000_0000 → Safe SmallOption (inputCiphertext net p value)
   unfolding inputCiphertext SmallOption
   input-safe p value l td tape h o =
       kept-onward _ _ (set-safe p value l td tape h o) (λ verified td q h o _.
       kept-cond verified _ _ (λ _. start-safe net p td q h o) (λ _. kept-before (kept-going h o tt)))
 
-  send-safe : (p value : ℕ) → value < 4294967296 → SafeEpoch (net .«num_nodes») (sendDecryptionShare net p value)
+  send-safe : (p value : ℕ) → value < 0x1_0000_0000 → SafeEpoch (net .«num_nodes») (sendDecryptionShare net p value)
   unfolding sendDecryptionShare
   send-safe p value l w tape h o =
       kept-about tape 8 p w _ refl h o (λ a b q _ o.
       kept-cond (eqb a 0) _ _ (λ _. kept-before (kept-going h o tt))
       (λ _. entry-safe p _ (input-safe p value l) w q h o))
 
-  share-message-safe : (sender p share : ℕ) → share < 4294967296 → SafeEpoch (net .«num_nodes») (handleDecryptionShare net sender p share)
+  share-message-safe : (sender p share : ℕ) → share < 0x1_0000_0000 → SafeEpoch (net .«num_nodes») (handleDecryptionShare net sender p share)
   share-message-safe sender p share l w tape h o =
       by-share net p w tape (Kept (EpochOk (net .«num_nodes»)) Any) sender share
       (kept-before (kept-going h o tt)) (entry-safe p _ (share-safe net p sender share l) w tape h o)
@@ -121,7 +120,7 @@ module _ (net : NetworkInfo) (some : 0 < net .«num_nodes») (few : net .«num_n
   finish-safe (suc m) p w tape h o = kept-onward _ _ (finish-at-safe p w tape h o) (λ _ w q h o _. finish-safe m (p + 1) w q h o)
 
   module _ (strategy : SubsetHandlingStrategy) (encrypted : Bool) where
-    contribution-safe : (p value : ℕ) → p < net .«num_nodes» → value < 4294967296 → SafeEpoch (net .«num_nodes») (handleContribution net strategy encrypted p value)
+    contribution-safe : (p value : ℕ) → p < net .«num_nodes» → value < 0x1_0000_0000 → SafeEpoch (net .«num_nodes») (handleContribution net strategy encrypted p value)
     unfolding handleContribution EntryOk
     contribution-safe p value l u w tape h o =
         kept-onward _ _
@@ -172,6 +171,5 @@ module _ (net : NetworkInfo) (some : 0 < net .«num_nodes») (few : net .«num_n
     pub content-safe : (sender p : ℕ) (content : MessageContent) → p < net .«num_nodes» → ContentOk content
         → SafeEpoch (net .«num_nodes») (handleMessageContent net strategy encrypted sender p content)
     unfolding handleMessageContent ContentOk
-    content-safe sender p Broadcast l u w tape h o = call-safe _ (handle-subset-safe net 23 1 p l) w tape h o
-    content-safe sender p Agreement l u w tape h o = call-safe _ (handle-subset-safe net 23 2 p l) w tape h o
+    content-safe sender p (Subset content) l u w tape h o = call-safe _ (handle-subset-safe net 23 content p l) w tape h o
     content-safe sender p (DecryptionShare share) l u w tape h o = share-message-safe sender p share u w tape h o

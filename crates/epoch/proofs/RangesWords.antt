@@ -46,7 +46,7 @@ module _ (n x i : ℕ) (l : i < n) (h : x < 2 ^ n) where
 unfoldable pub EntryOk : DecryptionState → Type 0
 EntryOk missing = Unit {0}
 EntryOk (ongoing td) = InstanceOk td
-EntryOk (complete plaintext) = plaintext < 4294967296
+EntryOk (complete plaintext) = plaintext < 0x1_0000_0000
 
 module _ (n : ℕ) (p : ℕ) where
   shares-length : (m i : ℕ) (w : List ℕ) → length (sharesFrom n p m i w) ≡ m
@@ -54,7 +54,7 @@ module _ (n : ℕ) (p : ℕ) where
   shares-length zero i w = refl
   shares-length (suc m) i w = ap suc (shares-length m (i + 1) w)
 
-  shares-below : (m i : ℕ) (w : List ℕ) (r k : ℕ) → i + m ≤ n → EpochOk n w → getD (sharesFrom n p m i w ++ replicate r 0) k 0 < 4294967296
+  shares-below : (m i : ℕ) (w : List ℕ) (r k : ℕ) → i + m ≤ n → EpochOk n w → getD (sharesFrom n p m i w ++ replicate r 0) k 0 < 0x1_0000_0000
   unfolding sharesFrom
   shares-below zero i w r k l h = rw (zeros-at r k) (omega arith)
   shares-below (suc m) i w r zero l h = rw (limit-share n p i (omega arith)) at (h .below (shareAt n p i))
@@ -88,7 +88,7 @@ module _ (n : ℕ) (p : ℕ) where
   flag-below true = omega arith
   flag-below false = omega arith
 
-  entry-ok : (w : List ℕ) (tag plaintext : ℕ) (td : ThresholdDecrypt) → tag < 3 → plaintext < 4294967296 → InstanceOk td → EpochOk n w → EpochOk n (storeEntry n w p tag plaintext td)
+  entry-ok : (w : List ℕ) (tag plaintext : ℕ) (td : ThresholdDecrypt) → tag < 3 → plaintext < 0x1_0000_0000 → InstanceOk td → EpochOk n w → EpochOk n (storeEntry n w p tag plaintext td)
   unfolding storeEntry
   entry-ok w tag plaintext td t l k h =
       shares-ok n 0 (td .shares) _ (omega arith) (k .shares)
@@ -134,9 +134,9 @@ all-every is (suc m) i w f =
 
 -- of a record
 module _ (n : ℕ) (w : List ℕ) (p : ℕ) where
-  by-field : getD w (recordAt n p 0) 0 < 5 → getD w (recordAt n p 1) 0 < 4294967296 → getD w (recordAt n p 2) 0 < 3
-      → getD w (recordAt n p 3) 0 < 4294967296 → getD w (recordAt n p 4) 0 < 4294967296 → getD w (recordAt n p 5) 0 < 2
-      → getD w (recordAt n p 6) 0 < 2 → getD w (recordAt n p 7) 0 < n → ((s : ℕ) → s < n → getD w (shareAt n p 0 + s) 0 < 4294967296)
+  by-field : getD w (recordAt n p 0) 0 < 5 → getD w (recordAt n p 1) 0 < 0x1_0000_0000 → getD w (recordAt n p 2) 0 < 3
+      → getD w (recordAt n p 3) 0 < 0x1_0000_0000 → getD w (recordAt n p 4) 0 < 0x1_0000_0000 → getD w (recordAt n p 5) 0 < 2
+      → getD w (recordAt n p 6) 0 < 2 → getD w (recordAt n p 7) 0 < n → ((s : ℕ) → s < n → getD w (shareAt n p 0 + s) 0 < 0x1_0000_0000)
       → (j : ℕ) → j < recordLength n → getD w (recordAt n p j) 0 < fieldLimit n j
   by-field f0 f1 f2 f3 f4 f5 f6 f7 f8 zero l = f0
   by-field f0 f1 f2 f3 f4 f5 f6 f7 f8 (suc zero) l = f1
@@ -186,7 +186,7 @@ module _ (n : ℕ) (w : List ℕ) (p : ℕ) where
       (lt-ltb _ _ (field-below n w p 7 h (omega arith))))
       (all-every maybeHandle n (shareAt n p 0) w (λ s l. lt-ltb _ _ (share s l)))
     where
-      share : (s : ℕ) → s < n → getD w (shareAt n p 0 + s) 0 < 4294967296
+      share : (s : ℕ) → s < n → getD w (shareAt n p 0 + s) 0 < 0x1_0000_0000
       share s l =
           let z : shareAt n p 0 + s ≡ shareAt n p s = omega arith in
           rw (z, ← limit-share n p s l) (h .below (shareAt n p s))

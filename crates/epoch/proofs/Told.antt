@@ -17,7 +17,7 @@ use Rattle.subset.proofs.After.{After}
 use Rattle.subset.proofs.Votes.{Voted}
 use Rattle.epoch.specs.declared.SubsetHandlingStrategy.{SubsetHandlingStrategy}
 use Rattle.epoch.specs.declared.MessageContent.{MessageContent}
-use Rattle.epoch.specs.declared.MessageContent.the-variants.{Broadcast, Agreement, DecryptionShare}
+use Rattle.epoch.specs.declared.MessageContent.the-variants.{Subset, DecryptionShare}
 use Rattle.epoch.specs.Words.{plaintextAt}
 use Rattle.epoch.specs.Epoch.{newEpoch, propose, handleMessageContent}
 use Rattle.epoch.specs.Batch.{isReady, isRead}
@@ -38,8 +38,7 @@ pub record Quiet (l : List Entry) : Type 0 where
 
 -- the proposer that a 12 concerns at a message's begin
 unfoldable pub shareOf : ℕ → MessageContent → Option ℕ
-shareOf p Broadcast = none
-shareOf p Agreement = none
+shareOf p (Subset content) = none
 shareOf p (DecryptionShare share) = some p
 
 -- v, d and t: the values, decisions and decrypted plaintexts taken so far, by proposer

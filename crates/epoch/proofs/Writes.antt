@@ -10,6 +10,8 @@ use lib.Dec.{eqb, ltb}
 use Rattle.steps.specs.declared.network_info.NetworkInfo.{NetworkInfo}
 use Rattle.steps.specs.declared.reader.Answer.{Answer}
 use Rattle.steps.specs.declared.reader.Answer.the-variants.{Got, Refused}
+use Rattle.steps.specs.declared.reader.Content.{Content}
+use Rattle.steps.specs.declared.reader.Content.the-variants.{Broadcast, Agreement}
 use Rattle.steps.specs.Network.{isValidator, numCorrect}
 use Rattle.steps.specs.Answers.{Tape, Asked, ask, askAbout}
 use Rattle.steps.specs.Runs.{Verdict, going, refused, failed, Run, inside, onwardAs, onward, heardAs, heard}
@@ -21,7 +23,7 @@ use Rattle.subset.specs.Proposal.{asksAgreement, asksBroadcast}
 use Rattle.subset.specs.Subset.{allComplete, countAccepted, contributed, atProposal, broadcastAt, agreementAt, voteFrom, votes, tryOutput, propose as proposeSubset, handleMessage as handleSubset}
 use Rattle.epoch.specs.declared.SubsetHandlingStrategy.{SubsetHandlingStrategy}
 use Rattle.epoch.specs.declared.MessageContent.{MessageContent}
-use Rattle.epoch.specs.declared.MessageContent.the-variants.{Broadcast, Agreement, DecryptionShare}
+use Rattle.epoch.specs.declared.MessageContent.the-variants.{Subset, DecryptionShare}
 use Rattle.epoch.specs.Words.{isComplete, isAccepted, accept, DecryptionState, missing, ongoing, complete, decryptionAt, plaintextAt, ciphertextAt, hadInputAt, terminatedAt, shareAt, loadDecryption, setShares, storeEntry, storeDecryption}
 use Rattle.epoch.proofs.Shares.{by-entry, by-share}
 use Rattle.epoch.specs.Epoch.{firstContributions, entryAfter, handlesNow, subsetComplete, proposalDropped, processDecryption, callEntry, sendDecryptionShare, handleDecryptionShare, finishAt, finishFrom, handleContribution, handleFrom, handleContributions, processSubset, handedUp, callSubset, propose, handleMessageContent}
@@ -137,11 +139,10 @@ module _ (P : List ℕ → Type 0) (other : (w : List ℕ) (i x : ℕ) → (i �
     keeps-propose-subset w t h =
         keeps-cond (isValidator net) _ _ (keeps-onward (broadcastAt net error 3 (net .«our_id») w t) _ (keeps-broadcast 3 (net .«our_id») w t h) (λ _ w q h. keeps-try w q h)) h
 
-    keeps-subset : (content p : ℕ) (w : List ℕ) (t : Tape) → P w → P (handleSubset net error content p w t .state)
+    keeps-subset : (content : Content) (p : ℕ) (w : List ℕ) (t : Tape) → P w → P (handleSubset net error content p w t .state)
     unfolding handleSubset
-    keeps-subset content p w t h =
-        keeps-onward (cond (eqb content 1) (broadcastAt net error 4 p w t) (agreementAt net error 5 p w t)) _
-        (keeps-cond (eqb content 1) _ _ (keeps-broadcast 4 p w t h) (keeps-agreement 5 p w t h)) (λ _ w q h. keeps-try w q h)
+    keeps-subset Broadcast p w t h = keeps-onward (broadcastAt net error 4 p w t) _ (keeps-broadcast 4 p w t h) (λ _ w q h. keeps-try w q h)
+    keeps-subset Agreement p w t h = keeps-onward (agreementAt net error 5 p w t) _ (keeps-agreement 5 p w t h) (λ _ w q h. keeps-try w q h)
 
   -- THE EPOCH
   module _ (net : NetworkInfo) where
@@ -206,6 +207,5 @@ module _ (P : List ℕ → Type 0) (other : (w : List ℕ) (i x : ℕ) → (i �
 
       pub keeps-message : (sender p : ℕ) (content : MessageContent) (w : List ℕ) (t : Tape) → P w → P (handleMessageContent net strategy encrypted sender p content w t .state)
       unfolding handleMessageContent
-      keeps-message sender p Broadcast w t h = keeps-subset-call (handleSubset net 23 1 p) w t (keeps-subset net 23 1 p w t h) h
-      keeps-message sender p Agreement w t h = keeps-subset-call (handleSubset net 23 2 p) w t (keeps-subset net 23 2 p w t h) h
+      keeps-message sender p (Subset content) w t h = keeps-subset-call (handleSubset net 23 content p) w t (keeps-subset net 23 content p w t h) h
       keeps-message sender p (DecryptionShare share) w t h = keeps-share sender p share w t h

@@ -3,6 +3,7 @@ use Prim.Native.Nat.{ℕ, zero, suc, _+_}
 use mathlib.Core.List.{List, [], _∷_, _++_}
 use mathlib.Core.Bool.{Bool, true, false, cond, _&&_}
 use lib.Dec.{eqb}
+use Rattle.steps.specs.Numbers.{contributionReads, batchDeserializationFailed, batchOutput, entryOutput}
 use Rattle.steps.specs.Answers.{Tape, askAbout}
 use Rattle.steps.specs.Steps.{Entry, fault, output}
 use Rattle.steps.specs.Runs.{going, Run, ends, before, onward, heard}
@@ -30,9 +31,9 @@ module _ (size : ℕ) where
   unfoldable pub readAt : ℕ → ℕ → List ℕ → Tape → Run (List ℕ) ℕ
   readAt p readable w tape =
       cond (isRead w p)
-      (heard (askAbout tape 13 p) w (λ a b tape.
+      (heard (askAbout tape contributionReads p) w (λ a b tape.
       cond (eqb a 0)
-      (before (fault 5 p 0 ∷ []) (ends (going readable) w tape))
+      (before (fault batchDeserializationFailed p 0 ∷ []) (ends (going readable) w tape))
       (ends (going (withBit readable p)) w tape)))
       (ends (going readable) w tape)
 
@@ -45,13 +46,13 @@ module _ (size : ℕ) where
   unfoldable pub entriesFrom : ℕ → ℕ → ℕ → List ℕ → List Entry
   entriesFrom zero p readable w = []
   entriesFrom (suc m) p readable w =
-      cond (hasBit readable p) (output 2 p (plaintextIn size w p) ∷ []) [] ++ entriesFrom m (p + 1) readable w
+      cond (hasBit readable p) (output entryOutput p (plaintextIn size w p) ∷ []) [] ++ entriesFrom m (p + 1) readable w
 
   -- "1 batch (a epoch, b entries), then per entry 2 (a proposer, b plaintext), by rising proposer"
   unfoldable pub outputBatchIn : ℕ → ℕ → List ℕ → Tape → Run (List ℕ) (Unit {0})
   outputBatchIn n epoch w tape =
       onward (readFrom n 0 0 w tape) (λ readable w tape.
-      before (output 1 epoch (countBits n 0 readable) ∷ entriesFrom n 0 readable w) (ends (going tt) w tape))
+      before (output batchOutput epoch (countBits n 0 readable) ∷ entriesFrom n 0 readable w) (ends (going tt) w tape))
 
 -- with the engine's own records. A batch is output only of an epoch that is ready
 abbrev pub isReady : ℕ → List ℕ → Bool

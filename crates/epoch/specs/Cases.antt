@@ -5,6 +5,7 @@ use mathlib.Core.List.{List, [], _∷_}
 use mathlib.Core.Bool.{Bool, true, false, cond}
 use lib.ListN.{length, getD}
 use lib.Dec.{eqb}
+use Rattle.steps.specs.declared.reader.Content.the-variants.{Broadcast, Agreement}
 use Rattle.steps.specs.declared.network_info.NetworkInfo.{NetworkInfo}
 use Rattle.steps.specs.Steps.{Entry, message, fault, output, Item}
 use Rattle.steps.specs.Runs.{Run, numberOf}
@@ -12,7 +13,7 @@ use Rattle.subset.specs.Words.{acceptedOf, countOf, proposalAt}
 use Rattle.subset.specs.Cases.{answers, yes, no, out}
 use Rattle.epoch.specs.declared.SubsetHandlingStrategy.{SubsetHandlingStrategy}
 use Rattle.epoch.specs.declared.SubsetHandlingStrategy.the-variants.{Incremental, AllAtEnd}
-use Rattle.epoch.specs.declared.MessageContent.the-variants.{Broadcast, Agreement, DecryptionShare}
+use Rattle.epoch.specs.declared.MessageContent.the-variants.{Subset, DecryptionShare}
 use Rattle.epoch.specs.Words.{decryptionAt}
 use Rattle.epoch.specs.Epoch.{newEpoch, receivedProposals, handleMessageContent}
 use Rattle.epoch.specs.Batch.{isReady, outputBatch}
@@ -73,8 +74,8 @@ module _ (c : Case) where
   shown w x = record { state = w; seen = number x }
 
   unfoldable pub apply : Op → List ℕ → Done
-  apply (broadcast p rs) w = ranOn w (handleMessageContent net (c .strategy) (c .encrypted) 0 p Broadcast w (answers rs))
-  apply (agreement p rs) w = ranOn w (handleMessageContent net (c .strategy) (c .encrypted) 0 p Agreement w (answers rs))
+  apply (broadcast p rs) w = ranOn w (handleMessageContent net (c .strategy) (c .encrypted) 0 p (Subset Broadcast) w (answers rs))
+  apply (agreement p rs) w = ranOn w (handleMessageContent net (c .strategy) (c .encrypted) 0 p (Subset Agreement) w (answers rs))
   apply (share sender p handle rs) w = ranOn w (handleMessageContent net (c .strategy) (c .encrypted) sender p (DecryptionShare handle) w (answers rs))
   apply (batch rs) w = ranOn w (outputBatch (c .nodes) 5 w (answers rs))
   apply ready w = shown w (cond (isReady (c .nodes) w) 1 0)

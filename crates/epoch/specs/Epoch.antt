@@ -5,6 +5,7 @@ use mathlib.Core.Bool.{Bool, true, false, cond, _&&_, not}
 use mathlib.Core.Option.{Option, none, some}
 use lib.ListN.{getD, set}
 use lib.Dec.{eqb}
+use Rattle.steps.specs.Numbers.{proposalSerialised, ciphertextReads, unexpectedDecryptionShare, deserializeCiphertext, invalidCiphertext, proposeBincode, inputSubset, handleSubsetMessage}
 use Rattle.steps.specs.declared.network_info.NetworkInfo.{NetworkInfo}
 use Rattle.steps.specs.Answers.{Tape, ask, askAbout}
 use Rattle.steps.specs.Steps.{Entry, fault}
@@ -19,7 +20,7 @@ use Rattle.subset.specs.Subset.{propose as proposeSubset, handleMessage as hand
 use Rattle.epoch.specs.declared.SubsetHandlingStrategy.{SubsetHandlingStrategy}
 use Rattle.epoch.specs.declared.SubsetHandlingStrategy.the-variants.{Incremental, AllAtEnd}
 use Rattle.epoch.specs.declared.MessageContent.{MessageContent}
-use Rattle.epoch.specs.declared.MessageContent.the-variants.{Broadcast, Agreement, DecryptionShare}
+use Rattle.epoch.specs.declared.MessageContent.the-variants.{Subset, DecryptionShare}
 use Rattle.epoch.specs.Words.{isVacant, isComplete, isAccepted, accept, DecryptionState, missing, ongoing, complete, asks, decryptionAt, loadEntry, loadDecryption, storeDecryption}
 
 -- "Received proposals are those in HasValue or Complete with 1; after Done, the accepted ones."
@@ -42,7 +43,7 @@ entryAfter (failed error) td = ongoing td
 -- a fault 2 for each of the next m senders, from sender i on, that has sent a share
 unfoldable pub unexpectedFrom : ℕ → ℕ → ThresholdDecrypt → List Entry
 unexpectedFrom zero i td = []
-unexpectedFrom (suc m) i td = cond (isSender td i) (fault 2 i 0 ∷ []) [] ++ unexpectedFrom m (i + 1) td
+unexpectedFrom (suc m) i td = cond (isSender td i) (fault unexpectedDecryptionShare i 0 ∷ []) [] ++ unexpectedFrom m (i + 1) td
 
 unfoldable pub unexpectedShares : ℕ → DecryptionState → List Entry
 unexpectedShares n missing = []
@@ -85,21 +86,21 @@ module _ (net : NetworkInfo) where
   unfoldable pub inputCiphertext : ℕ → ℕ → ThresholdDecrypt → Tape → Run ThresholdDecrypt (Option ℕ)
   inputCiphertext p value td tape =
       onward (setCiphertext p value td tape) (λ verified td tape.
-      cond verified (startDecryption net p td tape) (before (fault 4 p 0 ∷ []) (ends (going none) td tape)))
+      cond verified (startDecryption net p td tape) (before (fault invalidCiphertext p 0 ∷ []) (ends (going none) td tape)))
 
   -- a ciphertext that does not read is fault 3, and there is no entry for it
   unfoldable pub sendDecryptionShare : ℕ → ℕ → List ℕ → Tape → Run (List ℕ) (Unit {0})
   sendDecryptionShare p value w tape =
-      heard (askAbout tape 8 p) w (λ a b tape.
+      heard (askAbout tape ciphertextReads p) w (λ a b tape.
       cond (eqb a 0)
-      (before (fault 3 p 0 ∷ []) (ends (going tt) w tape))
+      (before (fault deserializeCiphertext p 0 ∷ []) (ends (going tt) w tape))
       (callEntry p (inputCiphertext p value) w tape))
 
   -- a share counts while the subset is not done, and after that for an accepted proposer only; else it is fault 2 of its sender
   unfoldable pub handleDecryptionShare : ℕ → ℕ → ℕ → List ℕ → Tape → Run (List ℕ) (Unit {0})
   handleDecryptionShare sender p share w tape =
       cond (isComplete w && not (isAccepted w p))
-      (before (fault 2 sender 0 ∷ []) (ends (going tt) w tape))
+      (before (fault unexpectedDecryptionShare sender 0 ∷ []) (ends (going tt) w tape))
       (callEntry p (handleShare net p sender share) w tape)
 
   -- proposer p's end of `Done`: its proposal is dropped, and "shares for non-accepted proposers become fault 2"
@@ -161,11 +162,10 @@ module _ (net : NetworkInfo) where
     -- 21 `ProposeBincode`, 22 `InputSubset`
     unfoldable pub propose : List ℕ → Tape → Run (List ℕ) (Unit {0})
     propose w tape =
-        heard (ask tape 2) w (λ a b tape.
-        cond (eqb a 0) (ends (failed 21) w tape) (callSubset (proposeSubset net 22) w tape))
+        heard (ask tape proposalSerialised) w (λ a b tape.
+        cond (eqb a 0) (ends (failed proposeBincode) w tape) (callSubset (proposeSubset net inputSubset) w tape))
 
     -- 23 `HandleSubsetMessage`
     unfoldable pub handleMessageContent : ℕ → ℕ → MessageContent → List ℕ → Tape → Run (List ℕ) (Unit {0})
-    handleMessageContent sender p Broadcast w tape = callSubset (handleSubset net 23 1 p) w tape
-    handleMessageContent sender p Agreement w tape = callSubset (handleSubset net 23 2 p) w tape
+    handleMessageContent sender p (Subset content) w tape = callSubset (handleSubset net handleSubsetMessage content p) w tape
     handleMessageContent sender p (DecryptionShare share) w tape = handleDecryptionShare sender p share w tape

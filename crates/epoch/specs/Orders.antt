@@ -5,6 +5,7 @@ use mathlib.Core.List.{List, [], _∷_, _++_}
 use mathlib.Core.Bool.{Bool, cond, _&&_, not}
 use lib.ListN.{getD}
 use lib.Dec.{eqb}
+use Rattle.steps.specs.Numbers.{unexpectedDecryptionShare}
 use Rattle.steps.specs.declared.network_info.NetworkInfo.{NetworkInfo}
 use Rattle.steps.specs.Answers.{Tape}
 use Rattle.steps.specs.Steps.{Entry, fault}
@@ -30,7 +31,7 @@ isUnexpected n w p sender =
 -- the next m senders, from this one on
 unfoldable pub bySender : ℕ → List ℕ → ℕ → ℕ → ℕ → List Entry
 bySender n w p zero sender = []
-bySender n w p (suc m) sender = cond (isUnexpected n w p sender) (fault 2 sender 0 ∷ []) [] ++ bySender n w p m (sender + 1)
+bySender n w p (suc m) sender = cond (isUnexpected n w p sender) (fault unexpectedDecryptionShare sender 0 ∷ []) [] ++ bySender n w p m (sender + 1)
 
 -- the next m proposers, from p on
 unfoldable pub byProposer : ℕ → List ℕ → ℕ → ℕ → List Entry

@@ -5,6 +5,7 @@ use mathlib.Core.Bool.{Bool, true, false, cond, _&&_, _||_, not}
 use lib.ListN.{getD, set, replicate}
 use lib.Dec.{eqb, leb, ltb}
 use Rattle.steps.specs.Bits.{hasBit, withBit}
+use Rattle.steps.specs.Numbers.{handleLimit}
 use Rattle.decryption.specs.declared.ThresholdDecrypt.{ThresholdDecrypt}
 use Rattle.decryption.specs.Decrypt.{new}
 use Rattle.subset.specs.Words.{statusVacant, statusComplete, statusOf, fieldAt, recordAt, tagCompleteTrue, decidedAt, acceptedAt, acceptedOf, countOf, proposalAt, valueAt, arrivalAt}
@@ -131,7 +132,7 @@ storeDecryption n w p (complete plaintext) = storeEntry n w p entryComplete plai
 
 -- THE RANGE RULE of an epoch's words. A handle, or 0 for none, is below 2^32
 abbrev pub maybeHandle : ℕ → Bool
-maybeHandle x = ltb x 4294967296
+maybeHandle x = ltb x (handleLimit + 1)
 
 -- the next m words, from word i on, are each so
 unfoldable pub allFrom : (ℕ → Bool) → ℕ → ℕ → List ℕ → Bool

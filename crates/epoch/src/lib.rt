@@ -1,4 +1,5 @@
 // One epoch, after honey_badger/epoch_state.rs, batch.rs and message.rs.
+use steps::reader::Content;
 
 // When the contributions that the subset hands up are handled: as they come, or all at the end.
 pub enum SubsetHandlingStrategy {
@@ -6,9 +7,8 @@ pub enum SubsetHandlingStrategy {
     AllAtEnd,
 }
 
-// The content of a message for an epoch.
+// The content of a message for an epoch: one of the subset's, or a decryption share.
 pub enum MessageContent {
-    Broadcast,
-    Agreement,
+    Subset(Content),
     DecryptionShare(u64),
 }

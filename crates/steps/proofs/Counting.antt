@@ -14,7 +14,7 @@ use Rattle.steps.specs.Steps.{Entry, message, fault, output, messages, f
 
 -- a chain that has counted n entries
 abbrev upTo : ℕ → Chain
-upTo n = record { at = min n 4294967296; end = 0 }
+upTo n = record { at = min n 0x1_0000_0000; end = 0 }
 
 abbrev pub countOf : ℕ → ℕ → ℕ → Step
 countOf m f u = record { messages = upTo m; faults = upTo f; outputs = upTo u }
@@ -29,14 +29,14 @@ exactOf l = record { messages = record { at = length (messages l); end = 0 }; fa
 
 upTo-more : (n : ℕ) → advance (upTo n) ≡ upTo (n + 1)
 unfolding advance
-upTo-more n = go (leb 4294967296 (min n 4294967296)) refl
+upTo-more n = go (leb 0x1_0000_0000 (min n 0x1_0000_0000)) refl
   where
-    go : (x : Bool) → leb 4294967296 (min n 4294967296) ≡ x → cond x (upTo n) (record { at = min n 4294967296 + 1; end = 0 }) ≡ upTo (n + 1)
+    go : (x : Bool) → leb 0x1_0000_0000 (min n 0x1_0000_0000) ≡ x → cond x (upTo n) (record { at = min n 0x1_0000_0000 + 1; end = 0 }) ≡ upTo (n + 1)
     go true e =
-        let h : min n 4294967296 ≡ min (n + 1) 4294967296 = omega (arith, leb-true 4294967296 (min n 4294967296) e) in
+        let h : min n 0x1_0000_0000 ≡ min (n + 1) 0x1_0000_0000 = omega (arith, leb-true 0x1_0000_0000 (min n 0x1_0000_0000) e) in
         ap (λ i. record { at = i; end = 0 }) h
     go false e =
-        let h : min n 4294967296 + 1 ≡ min (n + 1) 4294967296 = omega (arith, leb-false 4294967296 (min n 4294967296) e) in
+        let h : min n 0x1_0000_0000 + 1 ≡ min (n + 1) 0x1_0000_0000 = omega (arith, leb-false 0x1_0000_0000 (min n 0x1_0000_0000) e) in
         ap (λ i. record { at = i; end = 0 }) h
 
 more : (n k : ℕ) → n + 1 + k ≡ n + suc k
@@ -72,21 +72,21 @@ module _ (l : List Entry) (w : List ℕ) where
   counted = rw counts (record { messages = omega arith; faults = omega arith; outputs = omega arith })
 
   -- a count of at most 2^32 records is of fewer than 2^32 entries
-  pub records-few : records (putAll (out counting w) l .step) ≤ 4294967296 → length l < 4294967296
-  records-few h = let h′ : records (countedOf l) ≤ 4294967296 = rw counts at h in omega (arith, lists-length l)
+  pub records-few : records (putAll (out counting w) l .step) ≤ 0x1_0000_0000 → length l < 0x1_0000_0000
+  records-few h = let h′ : records (countedOf l) ≤ 0x1_0000_0000 = rw counts at h in omega (arith, lists-length l)
 
   -- and of fewer than 2^32 entries the count is exact
-  pub counts-exact : length l < 4294967296 → putAll (out counting w) l .step ≡ exactOf l
+  pub counts-exact : length l < 0x1_0000_0000 → putAll (out counting w) l .step ≡ exactOf l
   counts-exact h = counts ∙ rw (up (length (messages l)) (omega (arith, lists-length l)), up (length (faults l)) (omega (arith, lists-length l)), up (length (outputs l)) (omega (arith, lists-length l)))
     where
-      up : (n : ℕ) → n < 4294967296 → min n 4294967296 ≡ n
+      up : (n : ℕ) → n < 0x1_0000_0000 → min n 0x1_0000_0000 ≡ n
       up n h = omega arith
 
-  pub records-counted : length l < 4294967296 → records (putAll (out counting w) l .step) ≡ 1 + length l
+  pub records-counted : length l < 0x1_0000_0000 → records (putAll (out counting w) l .step) ≡ 1 + length l
   records-counted h = rw (counts-exact h) (omega (arith, lists-length l))
 
   -- so that a table of at most 2^32 records can take what was counted where it can take the log
-  pub records-test : (room : ℕ) → room ≤ 4294967296 → leb (records (putAll (out counting w) l .step)) room ≡ leb (1 + length l) room
+  pub records-test : (room : ℕ) → room ≤ 0x1_0000_0000 → leb (records (putAll (out counting w) l .step)) room ≡ leb (1 + length l) room
   records-test room h = rw counts (go (leb (1 + length l) room) refl)
     where
       go : (x : Bool) → leb (1 + length l) room ≡ x → leb (records (countedOf l)) room ≡ x

@@ -56,7 +56,7 @@ abbrev four : ℕ → List Item → ℕ → ℕ → ℕ → List ℕ
 four i xs k a b = linkAfter i xs ∷ k ∷ a ∷ b ∷ []
 
 -- one record, where the table has it
-put-one : (w : List ℕ) (i end k a b : ℕ) (xs : List Item) → end ≡ i + suc (length xs) → i < 4294967296 → i < length w / 4
+put-one : (w : List ℕ) (i end k a b : ℕ) (xs : List Item) → end ≡ i + suc (length xs) → i < 0x1_0000_0000 → i < length w / 4
     → chained (at (i + 1) end) (sets w (i * 4) (four i xs k a b)) ≡ chained (advance (at i end)) (putAt w (at i end) k a b)
 unfolding advance putAt
 put-one w i end k a b xs e h g =
@@ -65,7 +65,7 @@ put-one w i end k a b xs e h g =
     let three : i * 4 + 3 ≡ suc (suc (suc (i * 4))) = omega arith in
     let end-is : end ≡ i + 1 + length xs = omega arith in
     let next : nextOf (i + 1) end ≡ linkAfter i xs = ap (nextOf (i + 1)) end-is ∙ next-after i xs in
-    rw (lt-leb 4294967296 i h, lt-ltb i (length w / 4) g, one, two, three, next)
+    rw (lt-leb 0x1_0000_0000 i h, lt-ltb i (length w / 4) g, one, two, three, next)
 
 -- a record behind a run of stores, and the rest of its list behind it
 join : (w : List ℕ) (i : ℕ) (r xs : List ℕ) → length r ≡ 4 → sets (sets w (i * 4) r) ((i + 1) * 4) xs ≡ sets w (i * 4) (r ++ xs)
@@ -76,7 +76,7 @@ abbrev threeRuns : List ℕ → ℕ → ℕ → ℕ → List Entry → List ℕ
 threeRuns w m f u l = sets (sets (sets w (m * 4) (chainWords m (messages l))) (f * 4) (chainWords f (faults l))) (u * 4) (chainWords u (outputs l))
 
 put-lists : (l : List Entry) (w : List ℕ) (m me f fe u ue : ℕ) → me ≡ m + length (messages l) → fe ≡ f + length (faults l) → ue ≡ u + length (outputs l)
-    → me ≤ f → fe ≤ u → ue ≤ length w / 4 → ue ≤ 4294967296 → putAll (out (standing m me f fe u ue) w) l .words ≡ threeRuns w m f u l
+    → me ≤ f → fe ≤ u → ue ≤ length w / 4 → ue ≤ 0x1_0000_0000 → putAll (out (standing m me f fe u ue) w) l .words ≡ threeRuns w m f u l
 unfolding putAll messages faults outputs chainWords
 put-lists [] w m me f fe u ue a b c p q r h = refl
 put-lists (message k x y ∷ l) w m me f fe u ue a b c p q r h =
@@ -118,7 +118,7 @@ pub step-length : (l : List Entry) (epoch : ℕ) → length (stepWords l epoch) 
 step-length l epoch = omega (arith, laid-length (messages l) (faults l) (outputs l) epoch, lists-length l)
 
 -- the records from index 1 on are one run of stores
-lists-words : (l : List Entry) (w : List ℕ) → length l < 4294967296 → 1 + length l ≤ length w / 4
+lists-words : (l : List Entry) (w : List ℕ) → length l < 0x1_0000_0000 → 1 + length l ≤ length w / 4
     → putAll (out (writing (exactOf l)) w) l .words
     ≡ sets w 4 (chainWords 1 (messages l) ++ (chainWords (1 + length (messages l)) (faults l) ++ chainWords (1 + length (messages l) + length (faults l)) (outputs l)))
 lists-words l w h g =
@@ -140,7 +140,7 @@ header-first w vs s epoch h =
     sym (sets-comm hs vs w 0 4 (omega arith)) ∙ sets-eq (hs ++ vs) w 0 (omega arith) ∙ ap (λ k. (hs ++ vs) ++ drop k w) n
 
 -- what a second run writes
-pub finished-exact : (l : List Entry) (w : List ℕ) (epoch : ℕ) → length l < 4294967296 → 1 + length l ≤ length w / 4
+pub finished-exact : (l : List Entry) (w : List ℕ) (epoch : ℕ) → length l < 0x1_0000_0000 → 1 + length l ≤ length w / 4
     → putHeader (putAll (out (writing (exactOf l)) w) l .words) (writing (exactOf l)) epoch ≡ written w l epoch
 unfolding laidOut
 finished-exact l w epoch h g =
@@ -151,15 +151,15 @@ finished-exact l w epoch h g =
     ∙ rw (first-at 1 (messages l), first-at (1 + length (messages l)) (faults l), first-at (1 + length (messages l) + length (faults l)) (outputs l), n)
 
 -- THE LAYOUT: the second run, begun where the first run over any words v counted, leaves the finished step
-pub finished : (l : List Entry) (v w : List ℕ) (epoch : ℕ) → length l < 4294967296 → 1 + length l ≤ length w / 4
+pub finished : (l : List Entry) (v w : List ℕ) (epoch : ℕ) → length l < 0x1_0000_0000 → 1 + length l ≤ length w / 4
     → putHeader (putAll (out (writing (putAll (out counting v) l .step)) w) l .words) (writing (putAll (out counting v) l .step)) epoch ≡ written w l epoch
 finished l v w epoch h g = rw (counts-exact l v h) (finished-exact l w epoch h g)
 
 -- the same from a test of the count, where the table is of at most 2^32 records
-pub finished-fits : (l : List Entry) (v w : List ℕ) (epoch : ℕ) → records (putAll (out counting v) l .step) ≤ length w / 4 → length w / 4 ≤ 4294967296
+pub finished-fits : (l : List Entry) (v w : List ℕ) (epoch : ℕ) → records (putAll (out counting v) l .step) ≤ length w / 4 → length w / 4 ≤ 0x1_0000_0000
     → putHeader (putAll (out (writing (putAll (out counting v) l .step)) w) l .words) (writing (putAll (out counting v) l .step)) epoch ≡ written w l epoch
 finished-fits l v w epoch h g =
-    let few : length l < 4294967296 = records-few l v (omega arith) in
+    let few : length l < 0x1_0000_0000 = records-few l v (omega arith) in
     finished l v w epoch few (omega (arith, records-counted l v few))
 
 -- the header of a failed call

@@ -33,17 +33,17 @@ and-both x y e f = rw (e, f)
 
 -- THE ANSWERS. In every record but a message, b is below 2^32
 abbrev pub Small : Rec → Type 0
-Small r = (r .kind ≡ 16 → ⊥) → r .b < 4294967296
+Small r = (r .kind ≡ 16 → ⊥) → r .b < 0x1_0000_0000
 
 unfoldable pub AllSmall : List Rec → Type 0
 AllSmall [] = Unit {0}
 AllSmall (r ∷ rs) = Small r × AllSmall rs
 
-handle-below : (b : ℕ) → handle b ≡ true → b < 4294967296
-handle-below b e = let h : b ≤ 4294967295 = leb-true _ _ (and-true (leb 1 b) _ e .1) in omega arith
+handle-below : (b : ℕ) → handle b ≡ true → b < 0x1_0000_0000
+handle-below b e = let h : b ≤ 0xffff_ffff = leb-true _ _ (and-true (leb 1 b) _ e .1) in omega arith
 
 module _ (n context kind a b : ℕ) (few : n ≤ 16) where
-  record-small : recordOk n context kind a b ≡ true → (kind ≡ 16 → ⊥) → b < 4294967296
+  record-small : recordOk n context kind a b ≡ true → (kind ≡ 16 → ⊥) → b < 0x1_0000_0000
   unfolding recordOk
   record-small e not =
       by-test (eqb kind 1) _ _ e (λ _ u. omega (arith, eqb-true b 0 (and-true (leb a 1) _ u .1))) (λ _ e.
@@ -53,7 +53,7 @@ module _ (n context kind a b : ℕ) (few : n ≤ 16) where
       by-test (within 3 10 kind || eqb kind 13) _ _ e (λ _ u. omega (arith, ltb-true b n (and-true (leb a 1) _ u .1))) (λ _ e.
       by-test (eqb kind 11) _ _ e (λ _ u. handle-below b (and-true (eqb a 1) _ u .1)) (λ _ e.
       by-test (eqb kind 16) _ _ e (λ s u. absurd (not (eqb-true kind 16 s))) (λ _ e.
-      by-test (eqb kind 17) _ _ e (λ _ u. omega (arith, leb-true b 4294967295 (and-true (ltb 0 context && ltb a n) _ u .1))) (λ _ e.
+      by-test (eqb kind 17) _ _ e (λ _ u. omega (arith, leb-true b 0xffff_ffff (and-true (ltb 0 context && ltb a n) _ u .1))) (λ _ e.
       by-test (eqb kind 18) _ _ e
       (λ _ u. by-test (leb context 4) _ _ (and-true (ltb 0 context && eqb a 0) _ u .1) (λ _ v. handle-below b v) (λ _ v. omega (arith, leb-true b 1 v)))
       (λ _ e. absurd (false≢true e))))))))
@@ -143,7 +143,7 @@ module _ {S A : Type 0} {P : S → Type 0} {Q : A → Type 0} where
 -- what asking for anything but a message leaves
 record Heard (q : Asked) : Type 0 where
   tape : AllSmall (q .tape .rest)
-  small : (a b : ℕ) → q .answer ≡ Got a b → b < 4294967296
+  small : (a b : ℕ) → q .answer ≡ Got a b → b < 0x1_0000_0000
 
 for-heard : (want : Rec → Bool) → ((r : Rec) → want r ≡ true → r .kind ≡ 16 → ⊥) → (p : Tape) (l : List Rec) → AllSmall (p .rest) → AllSmall l → Heard (askFor want p l)
 unfolding askFor AllSmall
@@ -156,14 +156,14 @@ for-heard want not p (r ∷ rs) o h = go (want r) refl
 
 module _ {S A : Type 0} {P : S → Type 0} {Q : A → Type 0} where
   pub kept-ask : (p : Tape) (kind : ℕ) (s : S) (k : ℕ → ℕ → Tape → Run S A) → eqb kind 16 ≡ false → P s → AllSmall (p .rest)
-      → ((a b : ℕ) (q : Tape) → b < 4294967296 → AllSmall (q .rest) → Kept P Q (k a b q)) → Kept P Q (heard (ask p kind) s k)
+      → ((a b : ℕ) (q : Tape) → b < 0x1_0000_0000 → AllSmall (q .rest) → Kept P Q (k a b q)) → Kept P Q (heard (ask p kind) s k)
   unfolding ask
   kept-ask p kind s k n h o f =
       let u = for-heard (λ r. eqb (r .kind) kind) (λ r e z. eqb-false kind 16 n (sym (eqb-true _ _ e) ∙ z)) p (p .rest) o o in
       heard-kept (ask p kind) s k h (u .tape) (λ a b e. f a b _ (u .small a b e) (u .tape))
 
   pub kept-about : (p : Tape) (kind who : ℕ) (s : S) (k : ℕ → ℕ → Tape → Run S A) → eqb kind 16 ≡ false → P s → AllSmall (p .rest)
-      → ((a b : ℕ) (q : Tape) → b < 4294967296 → AllSmall (q .rest) → Kept P Q (k a b q)) → Kept P Q (heard (askAbout p kind who) s k)
+      → ((a b : ℕ) (q : Tape) → b < 0x1_0000_0000 → AllSmall (q .rest) → Kept P Q (k a b q)) → Kept P Q (heard (askAbout p kind who) s k)
   unfolding askAbout
   kept-about p kind who s k n h o f =
       let u = for-heard (λ r. eqb (r .kind) kind && eqb (r .b) who) (λ r e z. eqb-false kind 16 n (sym (eqb-true _ _ (and-true (eqb (r .kind) kind) _ e .0)) ∙ z)) p (p .rest) o o in
@@ -194,7 +194,7 @@ kept-inside put r f k = record { state = f _ (k .state); tape = k .tape; value =
 -- THE PARTS of an answer: an output is below 2^32
 unfoldable pub SmallOutput : Output → Type 0
 SmallOutput Missing = Unit {0}
-SmallOutput (Value v) = v < 4294967296
+SmallOutput (Value v) = v < 0x1_0000_0000
 
 last-small : (o : Output) (r : Rec) → Small r → SmallOutput o → SmallOutput (lastOutput o (r .kind) (r .b))
 unfolding lastOutput outputOf lastOf SmallOutput
@@ -224,7 +224,7 @@ module _ (content : Content) (proposer : ℕ) where
 -- a value that is handed up, if there is one, is below 2^32
 unfoldable pub SmallOption : Option ℕ → Type 0
 SmallOption none = Unit {0}
-SmallOption (some x) = x < 4294967296
+SmallOption (some x) = x < 0x1_0000_0000
 
 -- WORDS BELOW THEIR LIMITS: as many as said, word i below the limit of place i
 pub record Below (limit : ℕ → ℕ) (size : ℕ) (w : List ℕ) : Type 0 where

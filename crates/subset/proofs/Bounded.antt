@@ -7,6 +7,7 @@ use native.Mathlib.Omega.{arith}
 use lib.Dec.{eqb, ltb}
 use Rattle.steps.specs.declared.network_info.NetworkInfo.{NetworkInfo}
 use Rattle.steps.specs.declared.reader.Content.{Content}
+use Rattle.steps.specs.declared.reader.Content.the-variants.{Broadcast, Agreement}
 use Rattle.steps.specs.declared.reader.Output.{Output}
 use Rattle.steps.specs.declared.reader.Output.the-variants.{Missing, Value}
 use Rattle.steps.specs.Network.{isValidator, numCorrect}
@@ -84,9 +85,7 @@ module _ (net : NetworkInfo) (error : ℕ) where
       (bounded-onward 0 p _ _ (broadcast-at-writes 3 (net .«our_id») w p) (λ _ w q. try-writes w q))
       bounded-ends
 
-  pub handle-writes : (content p : ℕ) → Writes 0 (handleMessage net error content p)
+  pub handle-writes : (content : Content) (p : ℕ) → Writes 0 (handleMessage net error content p)
   unfolding handleMessage
-  handle-writes content p w tape =
-      bounded-onward 0 tape _ _
-      (bounded-cond (eqb content 1) 0 tape _ _ (broadcast-at-writes 4 p w tape) (agreement-at-writes 5 p w tape))
-      (λ _ w q. try-writes w q)
+  handle-writes Broadcast p w tape = bounded-onward 0 tape _ _ (broadcast-at-writes 4 p w tape) (λ _ w q. try-writes w q)
+  handle-writes Agreement p w tape = bounded-onward 0 tape _ _ (agreement-at-writes 5 p w tape) (λ _ w q. try-writes w q)

@@ -9,6 +9,7 @@ use native.Mathlib.Nat.{mul-add-mod-self-right, mod-eq-of-lt, two-pow-succ}
 use lib.ListN.{getD, set, List·getD-eq-default}
 use lib.Dec.{ltb, eqb}
 use borrow.Author.Tests.{le-ltb, lt-ltb, ltb-true}
+use Rattle.steps.specs.declared.reader.Content.the-variants.{Broadcast, Agreement}
 use Rattle.steps.specs.declared.reader.Content.{Content}
 use Rattle.steps.specs.declared.network_info.NetworkInfo.{NetworkInfo}
 use Rattle.steps.specs.declared.reader.Output.{Output}
@@ -29,7 +30,7 @@ ownLimit n i = getD (3 ∷ 2 ∷ (2 ^ n) ∷ (n + 1) ∷ []) i 1
 
 -- a record's: proposal, value, decryption, plaintext, ciphertext, had input, terminated, arrival; the rest are shares
 abbrev pub fieldLimit : ℕ → ℕ → ℕ
-fieldLimit n j = getD (5 ∷ 4294967296 ∷ 3 ∷ 4294967296 ∷ 4294967296 ∷ 2 ∷ 2 ∷ n ∷ []) j 4294967296
+fieldLimit n j = getD (5 ∷ 0x1_0000_0000 ∷ 3 ∷ 0x1_0000_0000 ∷ 0x1_0000_0000 ∷ 2 ∷ 2 ∷ n ∷ []) j 0x1_0000_0000
 
 unfoldable pub limitAt : ℕ → ℕ → ℕ
 limitAt n i = cond (ltb i 16) (ownLimit n i) (fieldLimit n ((i - 16) % recordLength n))
@@ -48,8 +49,8 @@ module _ (n p j : ℕ) where
       let e : recordAt n p j - 16 ≡ p * recordLength n + j = omega arith in
       rw (le-ltb (recordAt n p j) 16 (omega arith), e, mul-add-mod-self-right p (recordLength n) j, mod-eq-of-lt l)
 
-pub limit-share : (n p s : ℕ) → s < n → limitAt n (recordAt n p (8 + s)) ≡ 4294967296
-limit-share n p s l = limit-field n p (8 + s) (omega arith) ∙ List·getD-eq-default (5 ∷ 4294967296 ∷ 3 ∷ 4294967296 ∷ 4294967296 ∷ 2 ∷ 2 ∷ n ∷ []) 4294967296 {n = 8 + s} (omega arith)
+pub limit-share : (n p s : ℕ) → s < n → limitAt n (recordAt n p (8 + s)) ≡ 0x1_0000_0000
+limit-share n p s l = limit-field n p (8 + s) (omega arith) ∙ List·getD-eq-default (5 ∷ 0x1_0000_0000 ∷ 3 ∷ 0x1_0000_0000 ∷ 0x1_0000_0000 ∷ 2 ∷ 2 ∷ n ∷ []) 0x1_0000_0000 {n = 8 + s} (omega arith)
 
 pub two-some : (n : ℕ) → 0 < 2 ^ n
 two-some zero = omega arith
@@ -96,7 +97,7 @@ module _ (n : ℕ) where
 -- A PROPOSAL's value is below 2^32
 unfoldable pub ProposalOk : ProposalState → Type 0
 ProposalOk Ongoing = Unit {0}
-ProposalOk (HasValue v) = v < 4294967296
+ProposalOk (HasValue v) = v < 0x1_0000_0000
 ProposalOk Accepted = Unit {0}
 ProposalOk (Complete b) = Unit {0}
 
@@ -166,14 +167,14 @@ tag-below Accepted = omega arith
 tag-below (Complete true) = omega arith
 tag-below (Complete false) = omega arith
 
-value-below : (s : ProposalState) → ProposalOk s → valueOf s < 4294967296
+value-below : (s : ProposalState) → ProposalOk s → valueOf s < 0x1_0000_0000
 unfolding valueOf ProposalOk
 value-below Ongoing h = omega arith
 value-below (HasValue v) h = h
 value-below Accepted h = omega arith
 value-below (Complete b) h = omega arith
 
-of-ok : (tag value : ℕ) → value < 4294967296 → ProposalOk (proposalOf tag value)
+of-ok : (tag value : ℕ) → value < 0x1_0000_0000 → ProposalOk (proposalOf tag value)
 unfolding proposalOf ProposalOk
 of-ok tag value h = go (eqb tag 0) (eqb tag 1) (eqb tag 2) (eqb tag 3)
   where
@@ -193,7 +194,7 @@ module _ (n : ℕ) (w : List ℕ) (p : ℕ) (h : EpochOk n w) where
   unfolding storeProposal
   store-ok s k = set-field n _ p 1 (valueOf s) (set-field n w p 0 (tagOf s) h (omega arith) (tag-below s)) (omega arith) (value-below s k)
 
-  pub add-ok : (value : ℕ) → p < n → value < 4294967296 → EpochOk n (addContribution n w p value)
+  pub add-ok : (value : ℕ) → p < n → value < 0x1_0000_0000 → EpochOk n (addContribution n w p value)
   unfolding addContribution limitAt
   add-ok value l u = go (ltb (getD w countAt 0) n) refl
     where
@@ -272,9 +273,7 @@ module _ (net : NetworkInfo) (error : ℕ) where
       (λ _. kept-going h o tt)
 
   -- a message for proposer p
-  pub handle-safe : (content p : ℕ) → p < net .«num_nodes» → SafeEpoch (net .«num_nodes») (handleMessage net error content p)
+  pub handle-safe : (content : Content) (p : ℕ) → p < net .«num_nodes» → SafeEpoch (net .«num_nodes») (handleMessage net error content p)
   unfolding handleMessage
-  handle-safe content p l w tape h o =
-      kept-onward _ _
-      (kept-cond (eqb content 1) _ _ (λ _. broadcast-at-safe 4 p refl l w tape h o) (λ _. agreement-at-safe 5 p refl l w tape h o))
-      (λ _ w q h o _. try-safe w q h o)
+  handle-safe Broadcast p l w tape h o = kept-onward _ _ (broadcast-at-safe 4 p refl l w tape h o) (λ _ w q h o _. try-safe w q h o)
+  handle-safe Agreement p l w tape h o = kept-onward _ _ (agreement-at-safe 5 p refl l w tape h o) (λ _ w q h o _. try-safe w q h o)

@@ -5,6 +5,7 @@ use mathlib.Core.List.{List, [], _∷_}
 use mathlib.Core.Bool.{Bool, true, false}
 use mathlib.Core.Option.{Option, none, some}
 use lib.ListN.{length, getD}
+use Rattle.steps.specs.declared.reader.Content.the-variants.{Broadcast, Agreement}
 use Rattle.steps.specs.declared.network_info.NetworkInfo.{NetworkInfo}
 use Rattle.steps.specs.Answers.{Tape, tapeOf}
 use Rattle.steps.specs.Steps.{Item, item, chainWords, firstAt}
@@ -66,8 +67,8 @@ callProposal vote s tape = handleAgreement 23 0 7 s tape
 
 unfoldable pub callSubset : NetworkInfo → Call → List ℕ → Tape → Run (List ℕ) Bool
 callSubset net own w tape = propose net 22 w tape
-callSubset net (broadcast p) w tape = handleMessage net 23 1 p w tape
-callSubset net (agreement p) w tape = handleMessage net 23 2 p w tape
+callSubset net (broadcast p) w tape = handleMessage net 23 Broadcast p w tape
+callSubset net (agreement p) w tape = handleMessage net 23 Agreement p w tape
 callSubset net vote w tape = tryOutput net 23 w tape
 
 abbrev pub movedIn : Run ProposalState (Option ℕ) → Seen

@@ -7,6 +7,7 @@ use Rattle.steps.specs.declared.reader.Content.{Content}
 use Rattle.steps.specs.declared.reader.Content.the-variants.{Broadcast, Agreement}
 use Rattle.steps.specs.declared.reader.Output.{Output}
 use Rattle.steps.specs.declared.reader.Output.the-variants.{Missing, Value}
+use Rattle.steps.specs.Numbers.{proposeTrue}
 use Rattle.steps.specs.Answers.{Tape, askAbout}
 use Rattle.steps.specs.Runs.{going, failed, Run, ends, onward, heard}
 use Rattle.steps.specs.Parts.{readParts}
@@ -90,7 +91,7 @@ module _ (error p : ℕ) where
 
   -- the value has come while the agreement is undecided: a vote 1 for it. "If propose(true) fails after a value, the proposal keeps HasValue."
   unfoldable pub voteTrue : Moved → Tape → Run ProposalState (Option ℕ)
-  voteTrue m tape = cond (asksAgreement (m .state)) (handleAgreement 6 (m .state) tape) (movedTo m tape)
+  voteTrue m tape = cond (asksAgreement (m .state)) (handleAgreement proposeTrue (m .state) tape) (movedTo m tape)
 
   unfoldable pub afterValue : ProposalState → Output → Tape → Run ProposalState (Option ℕ)
   afterValue s Missing tape = movedTo (afterBroadcast s Missing) tape

@@ -9,6 +9,8 @@ use mathlib.Core.Option.{Option, none, some}
 use lib.ListN.{getD}
 use lib.Dec.{eqb, leb}
 use Rattle.steps.specs.declared.network_info.NetworkInfo.{NetworkInfo}
+use Rattle.steps.specs.declared.reader.Content.the-variants.{Broadcast, Agreement}
+use Rattle.steps.specs.Numbers.{agreementMessage, proposeTrue, proposeFalse, inputSubset, handleSubsetMessage}
 use Rattle.steps.specs.Network.{Network, isValidator, numCorrect}
 use Rattle.steps.specs.Answers.{Rec, Tape, tapeOf}
 use Rattle.steps.specs.Table.{within, tableOk}
@@ -53,9 +55,9 @@ takenBy is (x ∷ xs) p = orElse (firstTaken is p (answers x)) (takenBy is xs p)
 
 module _ (net : NetworkInfo) where
   unfoldable pub callSubset : SubsetCall → List ℕ → Tape → Run (List ℕ) Bool
-  callSubset proposing w p = propose net 22 w p
-  callSubset (broadcasting proposer) w p = handleMessage net 23 1 proposer w p
-  callSubset (agreeing proposer) w p = handleMessage net 23 2 proposer w p
+  callSubset proposing w tape = propose net inputSubset w tape
+  callSubset (broadcasting p) w tape = handleMessage net handleSubsetMessage Broadcast p w tape
+  callSubset (agreeing p) w tape = handleMessage net handleSubsetMessage Agreement p w tape
 
   -- the words after a run of calls, each of which reads its whole chain; none where one is refused or fails
   unfoldable pub wordsAs : Verdict Bool → List Rec → List ℕ → Option (List ℕ)
@@ -90,7 +92,7 @@ contributions n w = contributionsFrom n (getD w countAt 0) 0 w
 
 -- the decision for p, as far as the answers 5 and 6 of a call bring it: before the round of votes 0
 abbrev pub decidedBefore7 : List SubsetEvent → SubsetEvent → ℕ → Option ℕ
-decidedBefore7 h x p = orElse (takenBy ofDecision h p) (firstTaken (within 5 6) p (answers x))
+decidedBefore7 h x p = orElse (takenBy ofDecision h p) (firstTaken (within agreementMessage proposeTrue) p (answers x))
 
 -- a call that comes to the subset: a propose of a validator, or a message
 unfoldable pub speaks : NetworkInfo → SubsetCall → Bool
@@ -101,15 +103,15 @@ speaks net (agreeing proposer) = true
 pub record PaperRule (net : NetworkInfo) (h : List SubsetEvent) (x : SubsetEvent) (w : List ℕ) : Type 0 where
   -- "a delivered value earns a vote 1 while its agreement is undecided": then, and only then, vote 1 is asked for
   pub voteOne : (p : ℕ)
-      → asked 6 p (answers x) ≡ (isThere (firstTaken ofValue p (answers x)) && not (isThere (takenBy ofDecision h p)))
+      → asked proposeTrue p (answers x) ≡ (isThere (firstTaken ofValue p (answers x)) && not (isThere (takenBy ofDecision h p)))
   -- "N−f ones bring vote 0 to undecided agreements without a vote", in the Rust also to those with one, "again on each such call. Above: no
   -- vote.": in every call that comes to the subset with exactly N−f ones, and in no other
   pub voteZero : (p : ℕ) → p < net .«num_nodes»
-      → asked 7 p (answers x)
+      → asked proposeFalse p (answers x)
       ≡ (speaks net (x .call) && (eqb (onesFrom (decidedBefore7 h x) (net .«num_nodes») 0) (numCorrect net) && not (isThere (decidedBefore7 h x p))))
   -- "No outside call is made in HasValue for broadcast, in Accepted for agreement, in Complete at all."
   pub broadcasts : (k p : ℕ) → ofValue k ≡ true → asked k p (answers x) ≡ true → (takenBy ofValue h p ≡ none) × (takenBy ofDecision h p ≢ some 0)
-  pub agrees : (p : ℕ) → asked 5 p (answers x) ≡ true → takenBy ofDecision h p ≡ none
+  pub agrees : (p : ℕ) → asked agreementMessage p (answers x) ≡ true → takenBy ofDecision h p ≡ none
   -- "when all have decided, at least N−f of them 1, and every value decided 1 is here": then, and only then, it is done
   pub done : eqb (getD w decidedAt 0) 1 ≡ isOver net (takenBy ofValue (h ++ (x ∷ []))) (takenBy ofDecision (h ++ (x ∷ [])))
   -- "the output is those pairs": handed up are the pairs of a proposer decided 1 and its value

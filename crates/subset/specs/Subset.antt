@@ -6,6 +6,9 @@ use mathlib.Core.Option.{Option, none, some}
 use lib.ListN.{set}
 use lib.Dec.{eqb, ltb}
 use Rattle.steps.specs.declared.network_info.NetworkInfo.{NetworkInfo}
+use Rattle.steps.specs.declared.reader.Content.{Content}
+use Rattle.steps.specs.declared.reader.Content.the-variants.{Broadcast, Agreement}
+use Rattle.steps.specs.Numbers.{broadcastProposal, broadcastMessage, agreementMessage, proposeFalse}
 use Rattle.steps.specs.Network.{isValidator, numCorrect}
 use Rattle.steps.specs.Answers.{Tape}
 use Rattle.steps.specs.Runs.{going, Run, ends, onward, inside}
@@ -64,7 +67,7 @@ module _ (net : NetworkInfo) (error : ℕ) where
 
   -- `vote_false`: propose(false) for proposer p, if it is still possible
   abbrev pub voteFalse : ℕ → List ℕ → Tape → Run (List ℕ) (Unit {0})
-  voteFalse p w tape = agreementAt 7 p w tape
+  voteFalse p w tape = agreementAt proposeFalse p w tape
 
   -- "propose(false) for every proposer in rising order, HasValue included": the next m proposers, from p on
   unfoldable pub voteFrom : ℕ → ℕ → List ℕ → Tape → Run (List ℕ) (Unit {0})
@@ -92,10 +95,10 @@ module _ (net : NetworkInfo) (error : ℕ) where
   unfoldable pub propose : List ℕ → Tape → Run (List ℕ) Bool
   propose w tape =
       cond (isValidator net)
-      (onward (broadcastAt 3 (net .«our_id») w tape) (λ _ w tape. tryOutput w tape))
+      (onward (broadcastAt broadcastProposal (net .«our_id») w tape) (λ _ w tape. tryOutput w tape))
       (ends (going false) w tape)
 
-  -- content 1: a broadcast message for proposer p; content 2: an agreement message
-  unfoldable pub handleMessage : ℕ → ℕ → List ℕ → Tape → Run (List ℕ) Bool
-  handleMessage content p w tape =
-      onward (cond (eqb content 1) (broadcastAt 4 p w tape) (agreementAt 5 p w tape)) (λ _ w tape. tryOutput w tape)
+  -- a message of the broadcast or of the agreement of proposer p
+  unfoldable pub handleMessage : Content → ℕ → List ℕ → Tape → Run (List ℕ) Bool
+  handleMessage Broadcast p w tape = onward (broadcastAt broadcastMessage p w tape) (λ _ w tape. tryOutput w tape)
+  handleMessage Agreement p w tape = onward (agreementAt agreementMessage p w tape) (λ _ w tape. tryOutput w tape)
