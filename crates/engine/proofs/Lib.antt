@@ -1,6 +1,7 @@
 -- What is proved of the definitions.
 pub mod Bools
 pub mod Fails
+pub mod Checks
 pub mod Refusals
 pub mod Schedules
 pub mod Places
