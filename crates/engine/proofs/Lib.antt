@@ -14,6 +14,7 @@ pub mod Clearing
 pub mod Looping
 pub mod Works
 pub mod Settled
+pub mod FaultCount
 pub mod WorkRanges
 pub mod WorkLeaves
 pub mod OneBatch
