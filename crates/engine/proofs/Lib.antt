@@ -1,6 +1,7 @@
 -- What is proved of the definitions.
 pub mod Bools
 pub mod Fails
+pub mod Checks
 pub mod Refusals
 pub mod Schedules
 pub mod Places
@@ -12,6 +13,7 @@ pub mod Clearing
 pub mod Looping
 pub mod Works
 pub mod Settled
+pub mod FaultCount
 pub mod WorkRanges
 pub mod WorkLeaves
 pub mod Window

@@ -6,20 +6,20 @@ use mathlib.Core.List.{List, [], _∷_}
 use mathlib.Core.Bool.{Bool, true, false, cond, not, _&&_, false≢true}
 use lib.Dec.{eqb, leb, ltb}
 use lib.ListN.{length}
-use borrow.Author.Tests.{eqb-true, not-false, leb-true, leb-false, le-leb, lt-ltb}
+use borrow.Author.Tests.{eqb-true, not-false, leb-true, le-leb, lt-ltb}
 use Rattle.steps.specs.Numbers.{lastEpoch}
 use Rattle.steps.specs.Answers.{Rec, tapeOf}
 use Rattle.steps.specs.Steps.{written}
 use Rattle.steps.specs.Table.{tableOk}
 use Rattle.steps.specs.Runs.{Verdict, going, refused, failed, numberOf, Run}
 use Rattle.steps.proofs.Laws.{and-true}
-use Rattle.engine.specs.State.{nodes, currentEpoch, scratchOf, stateOk}
+use Rattle.engine.specs.State.{nodes, currentEpoch, stateOk}
 use Rattle.engine.specs.HoneyBadger.{propose, handleMessage}
-use Rattle.engine.specs.Calls.{After, zeroed, countFaults, isEnd, concludeAs, conclude, proposeAfter, proposeCall, contentOk, itemOk, contentOf, messageCall, skipReply}
+use Rattle.engine.specs.Calls.{After, zeroed, countFaults, isEnd, concludeAs, conclude, proposeAfter, proposeCall, contentOk, contentOf, messageCall, skipReply}
 use Rattle.engine.specs.Laws.{isRefusal, oneOf, proposeFailures, proposeReplies, messageFailures, messageReplies}
-use Rattle.engine.specs.History.{Call, turnOf, stateAfter}
-use Rattle.engine.specs.History.{propose as proposing, message as messaging, skip as skipping}
+use Rattle.engine.specs.History.{Call, turnOf, stateAfter, propose as proposing, message as messaging, skip as skipping}
 use Rattle.engine.proofs.Fails.{Meant, only-propose, only-message}
+use Rattle.engine.proofs.Checks.{by-branch, by-propose, by-message}
 use Rattle.engine.proofs.Refusals.{propose-promised, message-promised, skip-refusal, skip-replies}
 
 -- a run that went on, whose chain was read to its end, and what the call left
@@ -28,11 +28,6 @@ pub record Passed (run : Run (List ℕ) (Unit {0})) (epoch : ℕ) (step : List �
   pub rest : run .tape .rest ≡ []
   pub state : r .state ≡ countFaults (run .state) (run .log)
   pub written : r .step ≡ written step (run .log) epoch
-
--- the reply of a test's two outcomes
-through : (t : Bool) (x y : After) (P : After → Type 0) → (t ≡ true → x .reply ≡ 0 → P x) → (t ≡ false → y .reply ≡ 0 → P y) → cond t x y .reply ≡ 0 → P (cond t x y)
-through true x y P f g e = f refl e
-through false x y P f g e = g refl e
 
 at-end : (rs : List Rec) → isEnd rs ≡ true → rs ≡ []
 unfolding isEnd
@@ -45,39 +40,35 @@ unfolding concludeAs numberOf
 conclude-passes failures not-0 run epoch state scratch step m = go (run .verdict) refl m
   where
     P : After → Type 0
-    P r = Passed run epoch step r
+    P r = r .reply ≡ 0 → Passed run epoch step r
 
-    go : (v : Verdict (Unit {0})) → run .verdict ≡ v → Meant (oneOf failures) v → concludeAs v run epoch state scratch step .reply ≡ 0
-        → Passed run epoch step (concludeAs v run epoch state scratch step)
+    go : (v : Verdict (Unit {0})) → run .verdict ≡ v → Meant (oneOf failures) v → P (concludeAs v run epoch state scratch step)
     go refused e m = λ z. absurd (omega arith)
     go (going x) e m =
-        through (not (isEnd (run .tape .rest))) _ _ P (λ _ z. absurd (omega arith))
-        (λ i. through (ltb (length step / 4) (1 + length (run .log))) _ _ P (λ _ z. absurd (omega arith))
+        by-branch P (not (isEnd (run .tape .rest))) (λ _ z. absurd (omega arith))
+        (λ i. by-branch P (ltb (length step / 4) (1 + length (run .log))) (λ _ z. absurd (omega arith))
         (λ _ z. record { goes = e; rest = at-end (run .tape .rest) (not-false _ i); state = refl; written = refl }))
     go (failed error) e m =
-        through (not (isEnd (run .tape .rest))) _ _ P (λ _ z. absurd (omega arith))
-        (λ i. through (ltb (length step / 4) 1) _ _ P (λ _ z. absurd (omega arith))
+        by-branch P (not (isEnd (run .tape .rest))) (λ _ z. absurd (omega arith))
+        (λ i. by-branch P (ltb (length step / 4) 1) (λ _ z. absurd (omega arith))
         (λ _ z. absurd (false≢true (sym not-0 ∙ (ap (oneOf failures) (sym z) ∙ m)))))
 
 module _ (w scratch answers step : List ℕ) where
   pub propose-after-passes : (g : ℕ) → proposeAfter w scratch answers step g .reply ≡ 0
       → (stateOk w ≡ true) × (tableOk (nodes w) answers ≡ true) × Passed (propose w (tapeOf answers)) (currentEpoch w) step (proposeAfter w scratch answers step g)
-  unfolding proposeAfter oneOf
+  unfolding oneOf
   propose-after-passes g =
-      through (not (stateOk w)) _ _ P (λ _ z. absurd (omega arith))
-      (λ ok. through (ltb (length scratch) (scratchOf w)) _ _ P (λ _ z. absurd (omega arith))
-      (λ _. through (not (tableOk (nodes w) answers)) _ _ P (λ _ z. absurd (omega arith))
-      (λ table. through (ltb lastEpoch (currentEpoch w)) _ _ P (λ _ z. absurd (omega arith))
-      (λ _. through (not (eqb g 0)) _ _ P (λ t z. absurd (false≢true (rw z at t)))
-      (λ _ z. (
-        not-false _ ok,
-        not-false _ table,
+      by-propose P w scratch answers step (λ z. absurd (omega arith)) (λ z. absurd (omega arith)) (λ _ z. absurd (omega arith)) (λ _ z. absurd (omega arith))
+      g (λ ne _ z. absurd (ne z))
+      (λ c z. (
+        c .ok,
+        c .table,
         conclude-passes proposeFailures refl (propose w (tapeOf answers)) (currentEpoch w) w (zeroed w scratch) step
             (only-propose (oneOf proposeFailures) refl refl refl refl refl w (tapeOf answers) .fails) z,
-      ))))))
+      ))
     where
       P : After → Type 0
-      P r = (stateOk w ≡ true) × (tableOk (nodes w) answers ≡ true) × Passed (propose w (tapeOf answers)) (currentEpoch w) step r
+      P r = r .reply ≡ 0 → (stateOk w ≡ true) × (tableOk (nodes w) answers ≡ true) × Passed (propose w (tapeOf answers)) (currentEpoch w) step r
 
   pub propose-passes : proposeCall w scratch answers step .reply ≡ 0
       → (stateOk w ≡ true) × (tableOk (nodes w) answers ≡ true) × Passed (propose w (tapeOf answers)) (currentEpoch w) step (proposeCall w scratch answers step)
@@ -88,26 +79,21 @@ module _ (w scratch answers step : List ℕ) where
         → (stateOk w ≡ true) × (tableOk (nodes w) answers ≡ true) × (sender < nodes w) × (contentOk (nodes w) content proposer ≡ true)
         × Passed (handleMessage sender epoch proposer (contentOf content item) w (tapeOf answers)) epoch step
         (messageCall w scratch answers step sender epoch content proposer item)
-    unfolding messageCall oneOf
+    unfolding oneOf
     message-passes =
-        through (not (stateOk w)) _ _ P (λ _ z. absurd (omega arith))
-        (λ ok. through (ltb (length scratch) (scratchOf w)) _ _ P (λ _ z. absurd (omega arith))
-        (λ _. through (not (tableOk (nodes w) answers)) _ _ P (λ _ z. absurd (omega arith))
-        (λ table. through (leb (nodes w) sender) _ _ P (λ _ z. absurd (omega arith))
-        (λ sent. through (not (contentOk (nodes w) content proposer)) _ _ P (λ _ z. absurd (omega arith))
-        (λ fine. through (not (itemOk content item)) _ _ P (λ _ z. absurd (omega arith))
-        (λ _. through (ltb lastEpoch (currentEpoch w)) _ _ P (λ _ z. absurd (omega arith))
-        (λ _ z. (
-          not-false _ ok,
-          not-false _ table,
-          leb-false (nodes w) sender sent,
-          not-false _ fine,
+        by-message P w scratch answers step (λ z. absurd (omega arith)) (λ z. absurd (omega arith)) (λ _ z. absurd (omega arith)) (λ _ z. absurd (omega arith))
+        (λ _ z. absurd (omega arith)) (λ _ z. absurd (omega arith)) sender epoch content proposer item
+        (λ c d z. (
+          c .ok,
+          c .table,
+          d .fromNode,
+          d .contentIs,
           conclude-passes messageFailures refl (handleMessage sender epoch proposer (contentOf content item) w (tapeOf answers)) epoch w (zeroed w scratch) step
               (only-message (oneOf messageFailures) refl refl refl refl sender epoch proposer (contentOf content item) w (tapeOf answers) .fails) z,
-        ))))))))
+        ))
       where
         P : After → Type 0
-        P r = (stateOk w ≡ true) × (tableOk (nodes w) answers ≡ true) × (sender < nodes w) × (contentOk (nodes w) content proposer ≡ true)
+        P r = r .reply ≡ 0 → (stateOk w ≡ true) × (tableOk (nodes w) answers ≡ true) × (sender < nodes w) × (contentOk (nodes w) content proposer ≡ true)
             × Passed (handleMessage sender epoch proposer (contentOf content item) w (tapeOf answers)) epoch step r
 
 -- OTHER REPLIES BELOW 20. All of a list's numbers below 20 are at most 12

@@ -6,7 +6,7 @@ use mathlib.Core.Bool.{Bool, true, false, cond, not}
 use native.Mathlib.Omega.{arith}
 use lib.ListN.{length, set}
 use lib.Dec.{eqb, leb, ltb}
-use borrow.Author.Tests.{eqb-true, leb-true, ltb-true, ltb-false, not-false}
+use borrow.Author.Tests.{eqb-true, leb-true, ltb-true, ltb-false}
 use Rattle.steps.specs.Numbers.{lastEpoch, faultLimit}
 use Rattle.steps.specs.Network.{isValidator}
 use Rattle.steps.specs.Table.{handle, within, tableOk}
@@ -22,11 +22,12 @@ use Rattle.epoch.specs.declared.MessageContent.the-variants.{Subset, Decryption
 use Rattle.epoch.specs.Words.{isVacant}
 use Rattle.epoch.specs.Batch.{isReady, outputBatch}
 use Rattle.epoch.proofs.Ranges.{ContentOk, new-epoch-ok, batch-safe, propose-safe, content-safe}
-use Rattle.engine.specs.State.{nodes, ahead, currentEpoch, faultCount, scratchOf, inputAt, faultsAt, epochAt, netOf, strategyOf, encryptedIn, epochWords, withEpoch, withoutEpoch, stateOk}
+use Rattle.engine.specs.State.{nodes, ahead, currentEpoch, faultCount, inputAt, faultsAt, epochAt, netOf, strategyOf, encryptedIn, epochWords, withEpoch, withoutEpoch, stateOk}
 use Rattle.engine.specs.HoneyBadger.{updateEpoch, epochStateMut, inEpoch, tryOutputBatches, propose, handleMessage, clearBelow, skipToEpoch}
 use Rattle.engine.specs.Calls.{After, countFaults, isEnd, concludeAs, proposeAfter, messageCall, contentOk, itemOk, contentOf, skipReply, skipState}
 use Rattle.engine.specs.History.{propose as proposing, message as messaging, skip as skipping, stateAfter}
 use Rattle.engine.specs.Rule.{CallsInRange}
+use Rattle.engine.proofs.Checks.{by-branch, by-propose, by-message}
 use Rattle.engine.proofs.RangesState.{StateOk, input-ok, epoch-ok, faults-ok, nodes-same, ahead-same, current-below, words-ok, with-ok, without-ok, state-wider, header-ok, enter, leave}
 
 -- the runs of a state that came from w, whose nodes are 1 to 16
@@ -138,9 +139,8 @@ module _ (w : List ℕ) (some : 0 < nodes w) (few : nodes w ≤ 16) where
       by false e = faults-ok w b some v h faultLimit (omega arith)
 
 -- THE CALLS
-after-cond : (x : Bool) (f g : After) → (x ≡ true → stateOk (f .state) ≡ true) → (x ≡ false → stateOk (g .state) ≡ true) → stateOk (cond x f g .state) ≡ true
-after-cond true f g a b = a refl
-after-cond false f g a b = b refl
+abbrev Ranged : After → Type 0
+Ranged r = stateOk (r .state) ≡ true
 
 module _ (w : List ℕ) (ok : stateOk w ≡ true) where
   -- what a run comes to
@@ -158,30 +158,25 @@ module _ (w : List ℕ) (ok : stateOk w ≡ true) where
       by : (v : Verdict (Unit {0})) → stateOk (concludeAs v r epoch w scratch step .state) ≡ true
       by refused = ok
       by (going x) =
-          after-cond (not (isEnd (r .tape .rest))) _ _ (λ _. ok)
-          (λ _. after-cond (ltb (length step / 4) (1 + length (r .log))) _ _ (λ _. ok)
+          by-branch Ranged (not (isEnd (r .tape .rest))) (λ _. ok)
+          (λ _. by-branch Ranged (ltb (length step / 4) (1 + length (r .log))) (λ _. ok)
           (λ _. leave w ok _ (count-ok w (header-ok w ok .some) (header-ok w ok .few) _ (r .state) (r .log) ended)))
       by (failed error) =
-          after-cond (not (isEnd (r .tape .rest))) _ _ (λ _. ok)
-          (λ _. after-cond (ltb (length step / 4) 1) _ _ (λ _. ok) (λ _. leave w ok (r .state) ended))
+          by-branch Ranged (not (isEnd (r .tape .rest))) (λ _. ok)
+          (λ _. by-branch Ranged (ltb (length step / 4) 1) (λ _. ok) (λ _. leave w ok (r .state) ended))
 
-  entered : ltb lastEpoch (currentEpoch w) ≡ false → StateOk w lastEpoch w
-  entered e = enter w ok lastEpoch (ltb-false lastEpoch (currentEpoch w) e)
+  entered : currentEpoch w ≤ lastEpoch → StateOk w lastEpoch w
+  entered e = enter w ok lastEpoch e
 
-  answers-small : (answers : List ℕ) → not (tableOk (nodes w) answers) ≡ false → AllSmall (tapeOf answers .rest)
-  answers-small answers e = table-small (nodes w) answers (header-ok w ok .few) (not-false _ e)
+  answers-small : (answers : List ℕ) → tableOk (nodes w) answers ≡ true → AllSmall (tapeOf answers .rest)
+  answers-small answers e = table-small (nodes w) answers (header-ok w ok .few) e
 
   -- g is the reply of a further check, 0 for propose
   pub propose-in-range : (scratch answers step : List ℕ) (g : ℕ) → stateOk (proposeAfter w scratch answers step g .state) ≡ true
-  unfolding proposeAfter
   propose-in-range scratch answers step g =
-      after-cond (not (stateOk w)) _ _ (λ _. ok)
-      (λ _. after-cond (ltb (length scratch) (scratchOf w)) _ _ (λ _. ok)
-      (λ _. after-cond (not (tableOk (nodes w) answers)) _ _ (λ _. ok)
-      (λ t. after-cond (ltb lastEpoch (currentEpoch w)) _ _ (λ _. ok)
-      (λ e. after-cond (not (eqb g 0)) _ _ (λ _. ok)
-      (λ _. conclude-ok _ (propose w (tapeOf answers)) _ _ step
-      (propose-run w (header-ok w ok .some) (header-ok w ok .few) lastEpoch w (tapeOf answers) (entered e) (answers-small answers t)))))))
+      by-propose Ranged w scratch answers step ok ok (λ _. ok) (λ _. ok) g (λ _ _. ok)
+      (λ c. conclude-ok _ (propose w (tapeOf answers)) _ _ step
+      (propose-run w (header-ok w ok .some) (header-ok w ok .few) lastEpoch w (tapeOf answers) (entered (c .epoch)) (answers-small answers (c .table))))
 
   content-ok : (content item : ℕ) → itemOk content item ≡ true → ContentOk (contentOf content item)
   unfolding itemOk contentOf ContentOk
@@ -201,17 +196,11 @@ module _ (w : List ℕ) (ok : stateOk w ≡ true) where
 
   message-in-range : (scratch answers step : List ℕ) (sender epoch content proposer item : ℕ)
       → stateOk (messageCall w scratch answers step sender epoch content proposer item .state) ≡ true
-  unfolding messageCall
   message-in-range scratch answers step sender epoch content proposer item =
-      after-cond (not (stateOk w)) _ _ (λ _. ok)
-      (λ _. after-cond (ltb (length scratch) (scratchOf w)) _ _ (λ _. ok)
-      (λ _. after-cond (not (tableOk (nodes w) answers)) _ _ (λ _. ok)
-      (λ t. after-cond (leb (nodes w) sender) _ _ (λ _. ok)
-      (λ _. after-cond (not (contentOk (nodes w) content proposer)) _ _ (λ _. ok)
-      (λ c. after-cond (not (itemOk content item)) _ _ (λ _. ok)
-      (λ i. after-cond (ltb lastEpoch (currentEpoch w)) _ _ (λ _. ok)
-      (λ e. conclude-ok _ (handleMessage sender epoch proposer (contentOf content item) w (tapeOf answers)) epoch _ step
-      (message-run w (header-ok w ok .some) (header-ok w ok .few) lastEpoch sender epoch proposer _ (proposer-known content proposer (not-false _ c)) (content-ok content item (not-false _ i)) w (tapeOf answers) (entered e) (answers-small answers t)))))))))
+      by-message Ranged w scratch answers step ok ok (λ _. ok) (λ _. ok) (λ _. ok) (λ _. ok) sender epoch content proposer item
+      (λ c d. conclude-ok _ (handleMessage sender epoch proposer (contentOf content item) w (tapeOf answers)) epoch _ step
+      (message-run w (header-ok w ok .some) (header-ok w ok .few) lastEpoch sender epoch proposer _
+      (proposer-known content proposer (d .contentIs)) (content-ok content item (d .itemIs)) w (tapeOf answers) (entered (c .epoch)) (answers-small answers (c .table))))
 
   skip-in-range : (target : ℕ) → stateOk (skipState target w) ≡ true
   unfolding skipState skipReply

@@ -7,18 +7,18 @@ use mathlib.Core.Bool.{Bool, true, false, cond, not, and-false}
 use lib.Dec.{eqb, leb, ltb}
 use lib.ListN.{length, getD, drop, replicate, length-append, length-drop, length-replicate, getD-replicate, List·getD-append}
 use lib.Seq.{drop-at}
-use borrow.Author.Tests.{eqb-true, ltb-false, lt-leb, ne-eqb}
+use borrow.Author.Tests.{eqb-true, lt-leb, ne-eqb}
 use Rattle.steps.specs.Numbers.{lastEpoch}
 use Rattle.steps.specs.Answers.{tapeOf}
 use Rattle.steps.specs.Runs.{Verdict, going, refused, failed, numberOf, Run}
-use Rattle.steps.specs.Table.{tableOk}
 use Rattle.engine.specs.State.{nodes, currentEpoch, faultCount, scratchLength, scratchOf, stateLength, stateOk}
 use Rattle.engine.specs.HoneyBadger.{hasInput, receivedProposals}
-use Rattle.engine.specs.Calls.{After, after, zeroed, isEnd, concludeAs, conclude, proposeAfter, proposeCall, contentOk, itemOk, messageCall, skipReply, skipState, queryReply, currentEpochResult, hasInputResult, receivedProposalsResult, faultCountResult}
+use Rattle.engine.specs.Calls.{After, after, zeroed, isEnd, concludeAs, conclude, proposeAfter, proposeCall, messageCall, skipReply, skipState, queryReply, currentEpochResult, hasInputResult, receivedProposalsResult, faultCountResult}
 use Rattle.engine.specs.Create.{Numbers, numbersOk, createReply, createState}
 use Rattle.engine.specs.Laws.{isRefusal, oneOf, proposeFailures, proposeReplies, messageFailures, messageReplies, Promised}
 use Rattle.engine.proofs.Bools.{never}
 use Rattle.engine.proofs.Fails.{Meant, Only, only-propose, only-message}
+use Rattle.engine.proofs.Checks.{by-branch, by-propose, by-message}
 use Rattle.engine.proofs.RangesState.{shaped}
 
 -- numbers of a list
@@ -52,9 +52,9 @@ module _ (replies state scratch step : List ℕ) where
   abbrev Fine : After → Type 0
   Fine r = Promised replies state scratch step r
 
-  fine-cond : (t : Bool) {x y : After} → (t ≡ true → Fine x) → (t ≡ false → Fine y) → Fine (cond t x y)
-  fine-cond true h k = h refl
-  fine-cond false h k = k refl
+  -- 3 and 4 leave the scratch too
+  fine-first : (n : ℕ) → oneOf replies n ≡ true → oneOf (3 ∷ 4 ∷ []) n ≡ true → Fine (after n state scratch step)
+  fine-first n l o = record { listed = l; refusal = λ _. (refl, refl); zeros = rw o; room = λ h. never (sym o ∙ h) }
 
   -- a refusal, or success, with the scratch zeroed
   module _ (room : scratchOf state ≤ length scratch) where
@@ -82,11 +82,11 @@ module _ (replies state scratch step : List ℕ) where
           go : (v : Verdict (Unit {0})) → Meant (oneOf failures) v → Fine (concludeAs v r epoch state (zeroed state scratch) step)
           go refused m = fine-refusal 8 l-8 refl
           go (going _) m =
-              fine-cond (not (isEnd (r .tape .rest))) (λ _. fine-refusal 9 l-9 refl)
-              (λ _. fine-cond (ltb (length step / 4) (1 + length (r .log))) (λ _. fine-refusal 10 l-10 refl) (λ _. fine-end 0 _ _ l-0 refl refl))
+              by-branch Fine (not (isEnd (r .tape .rest))) (λ _. fine-refusal 9 l-9 refl)
+              (λ _. by-branch Fine (ltb (length step / 4) (1 + length (r .log))) (λ _. fine-refusal 10 l-10 refl) (λ _. fine-end 0 _ _ l-0 refl refl))
           go (failed error) m =
-              fine-cond (not (isEnd (r .tape .rest))) (λ _. fine-refusal 9 l-9 refl)
-              (λ _. fine-cond (ltb (length step / 4) 1) (λ _. fine-refusal 10 l-10 refl)
+              by-branch Fine (not (isEnd (r .tape .rest))) (λ _. fine-refusal 9 l-9 refl)
+              (λ _. by-branch Fine (ltb (length step / 4) 1) (λ _. fine-refusal 10 l-10 refl)
               (λ _. fine-end error _ _ (among error m) (low-not error (high failures error far m)) (refusal-not error (high failures error far m))))
 
 -- PROPOSE. With a further check, whose replies are `others`
@@ -95,28 +95,23 @@ proposeCalls = 0 ∷ 3 ∷ 4 ∷ 5 ∷ 6 ∷ 8 ∷ 9 ∷ 10 ∷ []
 
 pub propose-after-promised : (others state scratch answers step : List ℕ) (g : ℕ) → oneOf (others ++ proposeReplies) g ≡ true → oneOf (3 ∷ 4 ∷ []) g ≡ false
     → Promised (others ++ proposeReplies) state scratch step (proposeAfter state scratch answers step g)
-unfolding proposeAfter oneOf
+unfolding oneOf
 propose-after-promised others state scratch answers step g more-g not-g =
-    fine (not (stateOk state)) (λ _. record { listed = old 3 refl; refusal = λ _. (refl, refl); zeros = refl; room = never })
-    (λ _. fine (ltb (length scratch) (scratchOf state)) (λ _. record { listed = old 4 refl; refusal = λ _. (refl, refl); zeros = refl; room = never })
-    (λ l. let room : scratchOf state ≤ length scratch = ltb-false _ _ l in
-    fine (not (tableOk (nodes state) answers)) (λ _. turned room 5 (old 5 refl) refl)
-    (λ _. fine (ltb lastEpoch (currentEpoch state)) (λ _. turned room 6 (old 6 refl) refl)
-    (λ _. fine (not (eqb g 0)) (λ _. turned room g more-g not-g)
-    (λ _. fine-conclude (others ++ proposeReplies) state scratch step room (old 0 refl) (old 8 refl) (old 9 refl) (old 10 refl)
+    by-propose (Fine replies state scratch step) state scratch answers step
+    (fine-first replies state scratch step 3 (old 3 refl) refl) (fine-first replies state scratch step 4 (old 4 refl) refl)
+    (λ room. turned room 5 (old 5 refl) refl) (λ room. turned room 6 (old 6 refl) refl) g (λ _ room. turned room g more-g not-g)
+    (λ c. fine-conclude replies state scratch step (c .room) (old 0 refl) (old 8 refl) (old 9 refl) (old 10 refl)
     proposeFailures (λ x m. old x (more-by proposeCalls proposeFailures x m)) far
-    _ (currentEpoch state) (only-propose (oneOf proposeFailures) refl refl refl refl refl state (tapeOf answers)))))))
+    _ (currentEpoch state) (only-propose (oneOf proposeFailures) refl refl refl refl refl state (tapeOf answers)))
   where
-    old : (x : ℕ) → oneOf proposeReplies x ≡ true → oneOf (others ++ proposeReplies) x ≡ true
+    replies : List ℕ
+    replies = others ++ proposeReplies
+
+    old : (x : ℕ) → oneOf proposeReplies x ≡ true → oneOf replies x ≡ true
     old x h = more-by others proposeReplies x h
 
-    fine : (t : Bool) {x y : After} → (t ≡ true → Promised (others ++ proposeReplies) state scratch step x) → (t ≡ false → Promised (others ++ proposeReplies) state scratch step y)
-        → Promised (others ++ proposeReplies) state scratch step (cond t x y)
-    fine = fine-cond (others ++ proposeReplies) state scratch step
-
-    turned : scratchOf state ≤ length scratch → (n : ℕ) → oneOf (others ++ proposeReplies) n ≡ true → oneOf (3 ∷ 4 ∷ []) n ≡ false
-        → Promised (others ++ proposeReplies) state scratch step (after n state (zeroed state scratch) step)
-    turned = fine-refusal (others ++ proposeReplies) state scratch step
+    turned : scratchOf state ≤ length scratch → (n : ℕ) → oneOf replies n ≡ true → oneOf (3 ∷ 4 ∷ []) n ≡ false → Promised replies state scratch step (after n state (zeroed state scratch) step)
+    turned = fine-refusal replies state scratch step
 
     far : AllHigh proposeFailures
     far = (omega arith, (omega arith, (omega arith, (omega arith, (omega arith, tt)))))
@@ -131,24 +126,18 @@ messageCalls = 0 ∷ 3 ∷ 4 ∷ 5 ∷ 6 ∷ 7 ∷ 8 ∷ 9 ∷ 10 ∷ 11 ∷ []
 
 pub message-promised : (state scratch answers step : List ℕ) (sender epoch content proposer item : ℕ)
     → Promised messageReplies state scratch step (messageCall state scratch answers step sender epoch content proposer item)
-unfolding messageCall oneOf
+unfolding oneOf
 message-promised state scratch answers step sender epoch content proposer item =
-    fine (not (stateOk state)) (λ _. record { listed = refl; refusal = λ _. (refl, refl); zeros = refl; room = never })
-    (λ _. fine (ltb (length scratch) (scratchOf state)) (λ _. record { listed = refl; refusal = λ _. (refl, refl); zeros = refl; room = never })
-    (λ l. let room : scratchOf state ≤ length scratch = ltb-false _ _ l in
-    fine (not (tableOk (nodes state) answers)) (λ _. turned room 5 refl refl)
-    (λ _. fine (leb (nodes state) sender) (λ _. turned room 11 refl refl)
-    (λ _. fine (not (contentOk (nodes state) content proposer)) (λ _. turned room 7 refl refl)
-    (λ _. fine (not (itemOk content item)) (λ _. turned room 7 refl refl)
-    (λ _. fine (ltb lastEpoch (currentEpoch state)) (λ _. turned room 6 refl refl)
-    (λ _. fine-conclude messageReplies state scratch step room refl refl refl refl
+    by-message (Fine messageReplies state scratch step) state scratch answers step
+    (fine-first messageReplies state scratch step 3 refl refl) (fine-first messageReplies state scratch step 4 refl refl)
+    (λ room. turned room 5 refl refl) (λ room. turned room 6 refl refl) (λ room. turned room 11 refl refl) (λ room. turned room 7 refl refl)
+    sender epoch content proposer item
+    (λ c _. fine-conclude messageReplies state scratch step (c .room) refl refl refl refl
     messageFailures (more-by messageCalls messageFailures) far
-    _ epoch (only-message (oneOf messageFailures) refl refl refl refl sender epoch proposer _ state (tapeOf answers)))))))))
+    _ epoch (only-message (oneOf messageFailures) refl refl refl refl sender epoch proposer _ state (tapeOf answers)))
   where
-    fine : (t : Bool) {x y : After} → (t ≡ true → Promised messageReplies state scratch step x) → (t ≡ false → Promised messageReplies state scratch step y) → Promised messageReplies state scratch step (cond t x y)
-    fine = fine-cond messageReplies state scratch step
-
-    turned : scratchOf state ≤ length scratch → (n : ℕ) → oneOf messageReplies n ≡ true → oneOf (3 ∷ 4 ∷ []) n ≡ false → Promised messageReplies state scratch step (after n state (zeroed state scratch) step)
+    turned : scratchOf state ≤ length scratch → (n : ℕ) → oneOf messageReplies n ≡ true → oneOf (3 ∷ 4 ∷ []) n ≡ false
+        → Promised messageReplies state scratch step (after n state (zeroed state scratch) step)
     turned = fine-refusal messageReplies state scratch step
 
     far : AllHigh messageFailures
