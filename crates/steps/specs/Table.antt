@@ -35,7 +35,9 @@ recordOk n context kind a b =
 
 -- "Parts follow a 3..7 with a = 1": such an answer opens a context, its parts keep it, all else ends it
 unfoldable pub contextAfter : ℕ → ℕ → ℕ → ℕ
-contextAfter context kind a = cond (within broadcastProposal proposeFalse kind) (cond (eqb a 1) kind 0) (cond (within messagePart outputPart kind) context 0)
+contextAfter context kind a =
+    cond (within broadcastProposal proposeFalse kind) (cond (eqb a 1) kind 0)
+    (cond (within messagePart outputPart kind) context 0)
 
 -- word j of record i: "record i is at word 4 × i"
 abbrev pub word : List ℕ → ℕ → ℕ → ℕ
@@ -45,7 +47,7 @@ word t i j = getD t (i * 4 + j) 0
 unfoldable pub linkOk : List ℕ → ℕ → ℕ → Bool
 linkOk t own next = eqb next 0 || (ltb own next && ltb next (length t / 4))
 
--- record i may follow record own
+-- record i, which is not 0, may follow record own
 unfoldable pub mayFollow : ℕ → List ℕ → ℕ → ℕ → ℕ → Bool
 mayFollow n t own i context = linkOk t own i && recordOk n context (word t i 1) (word t i 2) (word t i 3)
 
