@@ -8,10 +8,11 @@ use mathlib.Core.Bool.{Bool, true, false, cond, not}
 use lib.Dec.{eqb, leb, ltb}
 use lib.ListN.{length, set}
 use lib.Seq.{getD-set-same}
+use Rattle.steps.specs.Numbers.{lastEpoch, faultLimit}
 use Rattle.steps.specs.Answers.{tapeOf}
 use Rattle.steps.specs.Steps.{Entry, faults}
 use Rattle.steps.specs.Runs.{Verdict, going, refused, failed, numberOf, Run}
-use Rattle.engine.specs.State.{nodes, ahead, faultCount, lastEpoch, faultsAt, faultLimit, stateOk}
+use Rattle.engine.specs.State.{nodes, ahead, faultCount, faultsAt, stateOk}
 use Rattle.engine.specs.HoneyBadger.{propose, handleMessage, skipToEpoch}
 use Rattle.engine.specs.Calls.{After, countFaults, isEnd, concludeAs, conclude, proposeAfter, contentOf, messageCall, skipReply, skipState}
 use Rattle.engine.proofs.Window.{Shaped, header-first}

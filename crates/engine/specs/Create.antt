@@ -4,7 +4,7 @@ use mathlib.Core.List.{List, [], _∷_, _++_}
 use mathlib.Core.Bool.{Bool, cond, not}
 use lib.ListN.{length, replicate}
 use lib.Dec.{eqb, leb, ltb}
-use Rattle.steps.specs.Numbers.{success, numbersOutOfRange, wrongStateLength, lastEpoch}
+use Rattle.steps.specs.Numbers.{success, numbersOutOfRange, wrongStateLength, lastEpoch, nodeLimit, aheadLimit}
 use Rattle.steps.specs.Table.{within}
 use Rattle.engine.specs.Schedule.{scheduleOk, usedFirst, usedSecond}
 use Rattle.engine.specs.State.{stateLength, allHold}
@@ -26,9 +26,9 @@ pub record Numbers : Type 0 where
 -- epoch above 2^62", and the schedule's rule
 unfoldable pub numberTests : Numbers → List Bool
 numberTests c =
-    within 1 16 (c .nodes)
+    within 1 nodeLimit (c .nodes)
     ∷ ltb (3 * c .faulty) (c .nodes)
-    ∷ leb (c .ahead) 15
+    ∷ leb (c .ahead) aheadLimit
     ∷ leb (c .own) (c .nodes)
     ∷ leb (c .key) 1
     ∷ leb (c .strategy) 1

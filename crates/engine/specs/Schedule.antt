@@ -2,6 +2,7 @@
 use Prim.Native.Nat.{ℕ, _+_, _%_}
 use mathlib.Core.Bool.{Bool, true, false, cond, _&&_}
 use lib.Dec.{eqb, leb, ltb}
+use Rattle.steps.specs.Numbers.{scheduleLimit}
 use Rattle.steps.specs.Table.{within}
 use Rattle.engine.specs.declared.EncryptionSchedule.{EncryptionSchedule}
 use Rattle.engine.specs.declared.EncryptionSchedule.the-variants.{Always, Never, EveryNthEpoch, TickTock}
@@ -24,8 +25,8 @@ useOnEpoch (TickTock on off) epoch = leb (epoch % (on + off)) on
 unfoldable pub scheduleOk : ℕ → ℕ → ℕ → Bool
 scheduleOk kind a b =
     cond (leb kind 1) true
-    (cond (eqb kind 2) (within 1 0xffff_ffff a)
-    (cond (eqb kind 3) (within 1 0xffff_ffff (a + b)) false))
+    (cond (eqb kind 2) (within 1 scheduleLimit a)
+    (cond (eqb kind 3) (within 1 scheduleLimit (a + b)) false))
 
 -- "schedule numbers a kind doesn't use are ignored": the state holds 0 for them
 unfoldable pub usedFirst : ℕ → ℕ → ℕ

@@ -4,7 +4,7 @@ use mathlib.Core.List.{List, [], _∷_, _++_}
 use mathlib.Core.Bool.{Bool, true, cond, _&&_, not}
 use lib.ListN.{length, getD, take, drop, replicate}
 use lib.Dec.{eqb, leb, ltb}
-use Rattle.steps.specs.Numbers.{lastEpoch, faultLimit}
+use Rattle.steps.specs.Numbers.{lastEpoch, faultLimit, nodeLimit, aheadLimit}
 use Rattle.steps.specs.declared.network_info.NetworkInfo.{NetworkInfo}
 use Rattle.steps.specs.Table.{within}
 use Rattle.subset.specs.Words.{epochLength}
@@ -156,9 +156,9 @@ module _ (w : List ℕ) where
   unfoldable pub headerTests : List Bool
   headerTests =
       eqb profile 1
-      ∷ within 1 16 nodes
+      ∷ within 1 nodeLimit nodes
       ∷ ltb (3 * faulty) nodes
-      ∷ leb ahead 15
+      ∷ leb ahead aheadLimit
       ∷ leb own nodes
       ∷ leb key 1
       ∷ leb strategy 1
