@@ -1,8 +1,8 @@
 -- HOW LONG THE LOG OF A CALL IS: at most 1,552 entries, so that no list of a step is counted past its limit of 2^32. Assumes nothing.
 use Prim.Native.Nat.{ℕ, zero, suc, _+_, _*_, _/_, _≤_, _<_}
-use mathlib.Core.Path.{_≡_, refl, sym, ap, _∙_}
+use mathlib.Core.Path.{_≡_, ap, _∙_}
 use mathlib.Core.List.{List, _++_}
-use mathlib.Core.Bool.{Bool, true, false, cond, _&&_, false≢true}
+use mathlib.Core.Bool.{Bool, true, false, cond}
 use native.Mathlib.Omega.{arith}
 use native.Mathlib.Nat.{mul-le-mul-right, mul-le-mul-left}
 use lib.ListN.{length, set, take, length-take, length-append, length-set, List·getD-append}
@@ -16,7 +16,6 @@ use Rattle.steps.specs.Table.{tableOk}
 use Rattle.steps.specs.Answers.{Tape, tapeOf, ask}
 use Rattle.steps.specs.Steps.{Entry, out, putAll, counting, writing, records as recordsOf, putHeader, written}
 use Rattle.steps.specs.Runs.{going, failed, Run, ends, onward, heardAs, heard}
-use Rattle.steps.proofs.Laws.{and-true}
 use Rattle.steps.proofs.Bounded.{Bounded, chainLimit, table-bounded, bounded-ends, bounded-wider, bounded-one, bounded-cond, bounded-ask, bounded-then, bounded-inside}
 use Rattle.steps.proofs.Counting.{exactOf, counts-exact, records-counted}
 use Rattle.steps.proofs.Finished.{finished}

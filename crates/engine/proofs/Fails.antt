@@ -1,11 +1,10 @@
 -- The numbers with which a run can fail, layer by layer.
 use Prim.Native.Nat.{ℕ, zero, suc, _+_}
 use mathlib.Core.Path.{_≡_}
-use mathlib.Core.List.{List, []}
+use mathlib.Core.List.{List}
 use mathlib.Core.Bool.{Bool, true, false, cond, _&&_, not, _||_}
 use mathlib.Core.Option.{Option}
 use lib.Dec.{eqb, leb, ltb}
-use lib.ListN.{getD}
 use Rattle.steps.specs.declared.reader.Content.{Content}
 use Rattle.steps.specs.declared.network_info.NetworkInfo.{NetworkInfo}
 use Rattle.steps.specs.declared.reader.Answer.{Answer}
@@ -16,7 +15,7 @@ use Rattle.steps.specs.Network.{isValidator, numCorrect}
 use Rattle.steps.specs.Answers.{Tape, Asked}
 use Rattle.steps.specs.Runs.{Verdict, going, refused, failed, Run, ends, onwardAs, onward, heardAs, heard}
 use Rattle.decryption.specs.declared.ThresholdDecrypt.{ThresholdDecrypt}
-use Rattle.decryption.specs.Decrypt.{isSome, isSender, countShares, new, setCiphertext, isShareValid, checkShare, removeFrom, ownShare, startWith, combine, tryWith, startDecryption, tryOutput, storeShare, handleMessage as handleShare}
+use Rattle.decryption.specs.Decrypt.{isSome, isSender, countShares, setCiphertext, isShareValid, checkShare, removeFrom, ownShare, startWith, combine, tryWith, startDecryption, tryOutput, storeShare, handleMessage as handleShare}
 use Rattle.subset.specs.declared.ProposalState.{ProposalState}
 use Rattle.subset.specs.Words.{isDecided, loadProposal}
 use Rattle.subset.specs.Proposal.{Moved, asksAgreement, asksBroadcast, afterBroadcast, instanceAnswer, handleAgreement, voteTrue, afterValue, handleBroadcast}

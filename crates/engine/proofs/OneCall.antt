@@ -24,7 +24,7 @@ use Rattle.subset.proofs.After.{AfterAs, After}
 use Rattle.subset.proofs.Votes.{and-no, and-yes, untold-same, untold-neither, Voted, voted-still, voted-after, voted-before}
 use Rattle.epoch.specs.declared.SubsetHandlingStrategy.{SubsetHandlingStrategy}
 use Rattle.epoch.specs.declared.MessageContent.{MessageContent}
-use Rattle.epoch.specs.Words.{isVacant, isComplete, isAccepted}
+use Rattle.epoch.specs.Words.{isVacant, isComplete}
 use Rattle.epoch.specs.Epoch.{newEpoch, propose as proposeInEpoch, handleMessageContent}
 use Rattle.epoch.specs.Batch.{isReady, decryptedFrom, isReadyIn, isRead, outputBatch}
 use Rattle.epoch.proofs.Told.{nothing, fivesAmong, Quiet, shareOf, Told, Ready, EpochLaws}

@@ -7,7 +7,6 @@ use mathlib.Core.Bool.{Bool, true, false, cond, not, _&&_, false≢true}
 use lib.Dec.{eqb, leb, ltb}
 use lib.ListN.{length}
 use borrow.Author.Tests.{eqb-true, not-false, leb-true, le-leb, lt-ltb}
-use Rattle.steps.specs.Numbers.{lastEpoch}
 use Rattle.steps.specs.Answers.{Rec, tapeOf}
 use Rattle.steps.specs.Steps.{written}
 use Rattle.steps.specs.Table.{tableOk}

@@ -1,10 +1,10 @@
 -- What happened in a run, told from its calls, their chains of answers and their step words alone (document 01, 'Rules to keep').
 use Prim.Native.Nat.{ℕ, zero, suc, _+_, max}
 use mathlib.Core.List.{List, [], _∷_, _++_}
-use mathlib.Core.Bool.{Bool, true, false, cond, _&&_, _||_}
+use mathlib.Core.Bool.{Bool, true, false, cond, _&&_}
 use mathlib.Core.Option.{Option, none, some}
 use lib.ListN.{length, take, drop}
-use lib.Dec.{eqb, leb, ltb}
+use lib.Dec.{eqb, ltb}
 use Rattle.steps.specs.Numbers.{shareContent, success, ciphertextReads, ciphertextVerifies, contributionDecrypted, contributionReads}
 use Rattle.steps.specs.Table.{within}
 use Rattle.steps.specs.Answers.{Rec, tapeOf}

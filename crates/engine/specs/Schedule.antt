@@ -1,7 +1,7 @@
 -- The encryption schedule, after `EncryptionSchedule` of honey_badger.rs.
 use Prim.Native.Nat.{ℕ, _+_, _%_}
-use mathlib.Core.Bool.{Bool, true, false, cond, _&&_}
-use lib.Dec.{eqb, leb, ltb}
+use mathlib.Core.Bool.{Bool, true, false, cond}
+use lib.Dec.{eqb, leb}
 use Rattle.steps.specs.Numbers.{scheduleLimit}
 use Rattle.steps.specs.Table.{within}
 use Rattle.engine.specs.declared.EncryptionSchedule.{EncryptionSchedule}

@@ -3,7 +3,7 @@ use Prim.Native.Nat.{ℕ, zero, suc, _+_, _^_, _≤_, _<_}
 use mathlib.Core.Path.{_≡_, refl, sym, ap, _∙_}
 use mathlib.Core.Logic.{_⊎_, inl, inr}
 use mathlib.Core.List.{List}
-use mathlib.Core.Bool.{Bool, true, false, cond, _&&_, _||_, not, false≢true}
+use mathlib.Core.Bool.{Bool, true, false, cond, _&&_, _||_, not}
 use mathlib.Core.Option.{Option, none, some}
 use native.Mathlib.Omega.{arith}
 use native.Mathlib.Nat.{zero-div}
@@ -37,7 +37,7 @@ use Rattle.epoch.specs.declared.SubsetHandlingStrategy.{SubsetHandlingSt
 use Rattle.epoch.specs.declared.SubsetHandlingStrategy.the-variants.{Incremental, AllAtEnd}
 use Rattle.epoch.specs.declared.MessageContent.{MessageContent}
 use Rattle.epoch.specs.declared.MessageContent.the-variants.{Subset, DecryptionShare}
-use Rattle.epoch.specs.Words.{isComplete, isAccepted, missing, ongoing, complete, entryComplete, isSettled, isOpen, decryptionAt, plaintextAt, loadInstance, loadDecryption}
+use Rattle.epoch.specs.Words.{isComplete, isAccepted, missing, complete, entryComplete, isSettled, isOpen, decryptionAt, plaintextAt, loadDecryption}
 use Rattle.epoch.specs.Epoch.{newEpoch, callEntry, handleDecryptionShare, processSubset, handedUp, callSubset, propose, handleMessageContent}
 use Rattle.epoch.specs.Batch.{decryptedFrom, isReadyIn, isRead, isReady}
 use Rattle.epoch.proofs.Told.{nothing, shareOf, Told, Ready, EpochLaws}

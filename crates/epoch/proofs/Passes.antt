@@ -25,7 +25,7 @@ use Rattle.steps.proofs.Laws.{and-true}
 use Rattle.steps.proofs.Past.{Past, Others}
 use Rattle.steps.proofs.Times.{past-more}
 use Rattle.decryption.specs.declared.ThresholdDecrypt.{ThresholdDecrypt}
-use Rattle.decryption.specs.Decrypt.{new, isSender, withInput, withEnd, countShares, isSome, setCiphertext, isShareValid, checkShare, removeFrom, ownShare, startWith, combine, tryWith, startDecryption, tryOutput as tryCombine, storeShare, handleMessage as handleShare}
+use Rattle.decryption.specs.Decrypt.{isSender, withInput, withEnd, countShares, isSome, setCiphertext, isShareValid, checkShare, removeFrom, ownShare, startWith, combine, tryWith, startDecryption, tryOutput as tryCombine, storeShare, handleMessage as handleShare}
 use Rattle.decryption.proofs.Cycle.{Does}
 use Rattle.subset.specs.declared.ProposalState.{ProposalState}
 use Rattle.subset.specs.Words.{decidedAt, isDecided, acceptedAt, statusAt, countAt, recordAt, proposalAt, valueAt, arrivalAt, loadProposal, storeProposal, addContribution}

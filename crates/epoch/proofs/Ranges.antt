@@ -10,7 +10,7 @@ use lib.Dec.{eqb}
 use Rattle.steps.specs.declared.network_info.NetworkInfo.{NetworkInfo}
 use Rattle.steps.specs.Answers.{Tape}
 use Rattle.steps.specs.Runs.{Verdict, going, refused, failed, Run}
-use Rattle.steps.proofs.Ranges.{AllSmall, Says, says-any, Kept, Any, SmallOption, kept-going, kept-failed, kept-before, kept-cond, kept-ask, kept-about, kept-onward, kept-inside, below-zeros}
+use Rattle.steps.proofs.Ranges.{Says, says-any, Kept, Any, SmallOption, kept-going, kept-failed, kept-before, kept-cond, kept-ask, kept-about, kept-onward, kept-inside, below-zeros}
 use Rattle.decryption.specs.declared.ThresholdDecrypt.{ThresholdDecrypt}
 use Rattle.decryption.proofs.Ranges.{InstanceOk, Safe, set-safe, start-safe, handle-safe as share-safe}
 use Rattle.subset.specs.Words.{recordLength, epochLength, statusAt, decidedAt, countAt, proposalAt, valueAt}

@@ -17,7 +17,7 @@ use Rattle.decryption.specs.Decrypt.{new}
 use Rattle.decryption.proofs.Ranges.{handles, InstanceOk, new-ok}
 use Rattle.subset.specs.Words.{recordLength, epochLength, statusAt, decidedAt, acceptedAt, countAt, recordAt, proposalAt}
 use Rattle.subset.proofs.Ranges.{ownLimit, fieldLimit, limitAt, limit-own, limit-field, limit-share, limit-some, two-some, EpochOk, set-field, set-own, field-below}
-use Rattle.epoch.specs.Words.{accept, DecryptionState, missing, ongoing, complete, decryptionAt, plaintextAt, hadInputAt, terminatedAt, shareAt, sharesFrom, entryNone, loadInstance, loadEntry, setShares, flag, storeEntry, storeDecryption, maybeHandle, allFrom, recordInRange, recordsInRange, epochInRange}
+use Rattle.epoch.specs.Words.{accept, DecryptionState, missing, ongoing, complete, decryptionAt, hadInputAt, terminatedAt, shareAt, sharesFrom, entryNone, loadInstance, loadEntry, setShares, flag, storeEntry, storeDecryption, maybeHandle, allFrom, recordInRange, recordsInRange, epochInRange}
 
 -- THE ACCEPTED PROPOSERS. A bit below n leaves the word below 2^n
 module _ (n x i : ℕ) (l : i < n) (h : x < 2 ^ n) where

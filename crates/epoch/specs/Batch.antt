@@ -1,7 +1,7 @@
 -- The batch of an epoch, after batch.rs and `try_output_batch` of epoch_state.rs.
 use Prim.Native.Nat.{ℕ, zero, suc, _+_}
 use mathlib.Core.List.{List, [], _∷_, _++_}
-use mathlib.Core.Bool.{Bool, true, false, cond, _&&_}
+use mathlib.Core.Bool.{Bool, true, cond, _&&_}
 use lib.Dec.{eqb}
 use Rattle.steps.specs.Numbers.{contributionReads, batchDeserializationFailed, batchOutput, entryOutput}
 use Rattle.steps.specs.Answers.{Tape, askAbout}

@@ -1,7 +1,7 @@
 -- An epoch over its words, after epoch_state.rs: a definition for each function, in its name.
 use Prim.Native.Nat.{ℕ, zero, suc, _+_, _-_}
 use mathlib.Core.List.{List, [], _∷_, _++_}
-use mathlib.Core.Bool.{Bool, true, false, cond, _&&_, not}
+use mathlib.Core.Bool.{Bool, true, cond, _&&_, not}
 use mathlib.Core.Option.{Option, none, some}
 use lib.ListN.{getD, set}
 use lib.Dec.{eqb}
@@ -12,7 +12,7 @@ use Rattle.steps.specs.Steps.{Entry, fault}
 use Rattle.steps.specs.Runs.{Verdict, going, refused, failed, Run, ends, before, onward, heard, inside}
 use Rattle.steps.specs.Bits.{countBits}
 use Rattle.decryption.specs.declared.ThresholdDecrypt.{ThresholdDecrypt}
-use Rattle.decryption.specs.Decrypt.{new, setCiphertext, startDecryption, isSender, handleMessage as handleShare}
+use Rattle.decryption.specs.Decrypt.{setCiphertext, startDecryption, isSender, handleMessage as handleShare}
 use Rattle.subset.specs.Words.{statusAt, decidedAt, countAt, statusComplete, acceptedOf, countOf, tagOngoing, proposalAt, valueAt, contributor, dropFrom}
 -- `EpochState::new`
 unfoldable pub use Rattle.subset.specs.Words.{newEpoch}

@@ -1,7 +1,7 @@
 -- The words of one epoch, as far as decryption uses them, and the range rule of all of them (docs/STATE.md).
-use Prim.Native.Nat.{ℕ, zero, suc, _+_, _*_, _/_, _%_, _^_, _-_}
+use Prim.Native.Nat.{ℕ, zero, suc, _+_, _^_, _-_}
 use mathlib.Core.List.{List, [], _∷_, _++_}
-use mathlib.Core.Bool.{Bool, true, false, cond, _&&_, _||_, not}
+use mathlib.Core.Bool.{Bool, true, cond, _&&_, _||_, not}
 use lib.ListN.{getD, set, replicate}
 use lib.Dec.{eqb, leb, ltb}
 use Rattle.steps.specs.Bits.{hasBit, withBit}

@@ -1,6 +1,6 @@
 -- Words of bits: bit i of a word stands for index i.
 use Prim.Native.Nat.{ℕ, zero, suc, _+_, _/_, _%_, _^_}
-use mathlib.Core.Bool.{Bool, true, false, cond}
+use mathlib.Core.Bool.{Bool, cond}
 use lib.Dec.{eqb}
 
 unfoldable pub hasBit : ℕ → ℕ → Bool

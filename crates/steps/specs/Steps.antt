@@ -1,7 +1,7 @@
 -- The step: its entries in the order in which they arise, its three lists, and the words that they become.
-use Prim.Native.Nat.{ℕ, zero, suc, _+_, _*_, _/_, _≤_}
+use Prim.Native.Nat.{ℕ, _+_, _*_, _/_, _≤_}
 use mathlib.Core.List.{List, [], _∷_, _++_}
-use mathlib.Core.Bool.{Bool, true, false, cond}
+use mathlib.Core.Bool.{cond}
 use lib.ListN.{length, drop, set}
 use lib.Dec.{ltb, leb, eqb}
 use Rattle.steps.specs.Numbers.{countLimit}

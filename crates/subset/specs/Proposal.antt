@@ -1,5 +1,5 @@
 -- A proposal, after proposal_state.rs. `error` is the number that the caller gives a failure, 22 or 23.
-use Prim.Native.Nat.{ℕ, zero, suc}
+use Prim.Native.Nat.{ℕ}
 use mathlib.Core.Bool.{Bool, true, false, cond}
 use mathlib.Core.Option.{Option, none, some}
 use lib.Dec.{eqb}
