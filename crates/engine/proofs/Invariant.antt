@@ -18,7 +18,7 @@ use Rattle.epoch.proofs.Told.{nothing}
 use Rattle.epoch.proofs.Batches.{Alive}
 use Rattle.engine.specs.State.{headerLength, epochAt, nodes, ahead, currentEpoch, netOf, strategyOf, encryptedIn, epochWords, withEpoch}
 use Rattle.engine.specs.HoneyBadger.{updateEpoch}
-use Rattle.engine.proofs.Places.{same-place}
+use Rattle.rings.proofs.Places.{same-place}
 use Rattle.engine.proofs.Window as window
 use Rattle.engine.proofs.Window.{Shaped, with-head, with-shaped, with-same, with-other, set-shaped, set-words, update-shaped, update-head, update-current, update-kept, update-next}
 use Rattle.engine.proofs.Handout.{Tk}

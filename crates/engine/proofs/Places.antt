@@ -1,5 +1,4 @@
--- Places in a list: parts of one length, one after the other from some word on. What writing one of them leaves. And which numbers share a place.
--- Assumes nothing.
+-- Places in a list: parts of one length, one after the other from some word on, and what writing one of them leaves. Assumes nothing.
 use Prim.Native.Nat.{ℕ, suc, _+_, _*_, _-_, _/_, _%_, _≤_, _<_}
 use native.Mathlib.Nat.{mul-le-mul-right, suc-mul, div-add-mod, mul-le-mul-left, mul-suc, le-antisymm, lt-of-not-le, le-of-suc-le-suc}
 use native.Mathlib.Omega.{arith}
@@ -10,16 +9,6 @@ use lib.Dec.{ltb}
 use lib.ListN.{length, getD, take, drop, length-append, length-drop, List·getD-append, take-append-drop}
 use lib.Seq.{getD-append-add, getD-take, getD-drop, length-take-le, ext-getD, drop-at, take-at, drop-drop}
 use borrow.Author.Tests.{ltb-true, ltb-false}
-
--- NUMBERS AND PLACES: of m numbers in a row no two have the same place modulo m
-quotient-le : (m d e : ℕ) → d % m ≡ e % m → e < d + m → e / m ≤ d / m
-quotient-le m d e h l = le-of-suc-le-suc (lt-of-not-le (λ (q : suc (d / m) ≤ e / m).
-    omega (arith, div-add-mod d m, div-add-mod e m, mul-le-mul-left m q, mul-suc m (d / m))))
-
-pub same-place : (m d e : ℕ) → d % m ≡ e % m → e < d + m → d < e + m → d ≡ e
-same-place m d e h k l =
-    let q : d / m ≡ e / m = le-antisymm (quotient-le m e d (sym h) l) (quotient-le m d e h k) in
-    sym (div-add-mod d m) ∙ rw (q, h) (div-add-mod e m)
 
 -- A PART OF A LIST, `size` words from word `at` on, is replaced
 abbrev pub pasted : List ℕ → ℕ → ℕ → List ℕ → List ℕ

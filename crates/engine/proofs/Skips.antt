@@ -15,7 +15,7 @@ use Rattle.engine.specs.State.{headerLength, nodes, ahead, currentEpoch,
 use Rattle.engine.specs.HoneyBadger.{clearBelow, skipToEpoch}
 use Rattle.engine.specs.Calls.{skipReply, skipState}
 use Rattle.engine.specs.Laws.{Skipped}
-use Rattle.engine.proofs.Places.{same-place}
+use Rattle.rings.proofs.Places.{same-place}
 use Rattle.engine.proofs.Window.{Shaped, header-first, set-shaped, set-words, without-shaped, without-head, without-place, without-other}
 use Rattle.engine.proofs.RangesState.{shaped}
 

@@ -9,7 +9,8 @@ use lib.Seq.{getD-set-same, getD-set-other, drop-set-lt}
 use Rattle.subset.specs.Words.{epochLength}
 use Rattle.engine.specs.State.{headerLength, nodesAt, faultyAt, aheadAt, ownAt, keyAt, strategyAt, scheduleAt, firstNumberAt, secondNumberAt, epochAt, inputAt, epochsAt, stateLength, nodes, ahead, currentEpoch, netOf, strategyOf, encryptedIn, placeOf, epochWords, withEpoch, withoutEpoch}
 use Rattle.engine.specs.HoneyBadger.{updateEpoch}
-use Rattle.engine.proofs.Places.{same-place, pasted, pasted-own, pasted-twice, place-fits, place-long, placed-long, placed-before, placed-in, placed-other}
+use Rattle.rings.proofs.Places.{same-place}
+use Rattle.engine.proofs.Places.{pasted, pasted-own, pasted-twice, place-fits, place-long, placed-long, placed-before, placed-in, placed-other}
 
 -- WHERE EPOCHS BEGIN: not inside the header. All that the laws know of it
 pub header-first : (n : ℕ) → headerLength ≤ epochsAt n

@@ -27,7 +27,7 @@ use Rattle.epoch.proofs.Writes.{keeps-propose, keeps-message}
 use Rattle.engine.specs.State.{epochAt, inputAt, faultsAt, faultCount, nodes, ahead, currentEpoch, netOf, strategyOf, encryptedIn, epochWords, withEpoch, stateOk}
 use Rattle.engine.specs.HoneyBadger.{epochStateMut, inEpoch, outputBatches, propose, handleMessage}
 use Rattle.engine.specs.Work.{built, epochCall, batchesFrom, Worked, worked, beside, workIn, proposeWork, messageWork, committed}
-use Rattle.engine.proofs.Places.{same-place}
+use Rattle.rings.proofs.Places.{same-place}
 use Rattle.engine.proofs.Window.{Shaped, with-own, net-same, strategy-same, encrypted-same, words-long, with-head, with-shaped, with-twice, with-same, with-other, set-shaped, set-words}
 use Rattle.engine.proofs.RangesState.{shaped}
 use Rattle.engine.proofs.Skips.{skip-stays, skip-head, skipped}

@@ -7,6 +7,7 @@ use mathlib.Core.Option.{Option, some}
 use lib.ListN.{length, replicate}
 use Rattle.steps.specs.Steps.{Item, item, firstAt, chainWords}
 use Rattle.steps.specs.Batches.{BatchEntry, Batch}
+use Rattle.engine.specs.State.{stateLength, scratchLength}
 use Rattle.engine.specs.History.{Call, propose, message, skip, Turn, Event, Handed, handed, unreadable, valueTaken, decisionTaken, readings}
 use Rattle.engine.specs.Claim.{Made, turnsOf, historyOf, encryptedOf}
 use Rattle.engine.specs.Opened.{opened}
@@ -46,11 +47,11 @@ table xs = firstAt 1 xs ∷ 0 ∷ 0 ∷ 0 ∷ chainWords 1 xs
 
 -- CALLS, with 16 records for the step, and scratch for either host. The words that are lent may be any
 abbrev pub proposing : List Item → Call
-proposing xs = propose (replicate 88 9) (table xs) (replicate 64 9)
+proposing xs = propose (replicate (scratchLength 2 1) 9) (table xs) (replicate 64 9)
 
 -- a broadcast message about a proposer's proposal
 abbrev pub hearing : ℕ → ℕ → ℕ → List Item → Call
-hearing sender epoch proposer xs = message sender epoch 1 proposer 0 (replicate 88 9) (table xs) (replicate 64 9)
+hearing sender epoch proposer xs = message sender epoch 1 proposer 0 (replicate (scratchLength 2 1) 9) (table xs) (replicate 64 9)
 
 -- THE HOSTS. N 2, f 0, EveryNthEpoch(2): epoch 0 is encrypted, epoch 1 is not. Both begin at epoch 0. The values are 11 and 12 in epoch 0,
 -- 13 and 14 in epoch 1; 11 decrypts to 21 and 12 to 22, which does not read.
@@ -73,7 +74,7 @@ hostA =
             first = 2;
             second = 0;
           };
-      words = replicate 88 9;
+      words = replicate (stateLength 2 1) 9;
       calls =
           proposing (built ++ (serialised 11 ++ (broadcast 0 11 ++ (voted 0 ++ decrypting 0 100 21))))
           -- another value, and then an answer about proposer 0 where one about 1 is wanted
@@ -101,7 +102,7 @@ hostB =
             first = 2;
             second = 0;
           };
-      words = replicate 52 9;
+      words = replicate (stateLength 2 0) 9;
       calls =
           -- two outputs: the last counts
           hearing 0 0 0 (built ++ (item 4 1 0 ∷ item 18 0 19 ∷ item 18 0 11 ∷ voted 0))

@@ -12,6 +12,7 @@ use lib.ListN.{length, replicate}
 use Rattle.steps.specs.Steps.{Item, item, linkAfter}
 use Rattle.steps.specs.Answers.{Rec}
 use Rattle.steps.specs.Batches.{Batch}
+use Rattle.engine.specs.State.{stateLength, scratchLength}
 use Rattle.engine.specs.History.{Call, propose, message, skip, Event, handed, valueTaken, decisionTaken, readings}
 use Rattle.engine.specs.Claim.{Made, turnsOf, historyOf, encryptedOf}
 use Rattle.engine.specs.Pair.{built, serialised, broadcast, delivered, voted, reads, readsNot, table, repliesIn, Seen, seenIn, entry}
@@ -73,18 +74,18 @@ line call isMessage epoch shareOf xs o =
 
 -- a propose, which must be for this epoch
 abbrev proposing : ℕ → List Item → Outcome → Line
-proposing epoch xs o = line (propose (replicate 144 9) (table xs) (replicate 64 9)) false epoch none xs o
+proposing epoch xs o = line (propose (replicate (scratchLength 4 1) 9) (table xs) (replicate 64 9)) false epoch none xs o
 
 -- messages, each by its sender, its epoch and the proposer that it is about: of the broadcast, of the agreement, and a decryption share
 abbrev hearing : ℕ → ℕ → ℕ → List Item → Outcome → Line
-hearing sender epoch p xs o = line (message sender epoch 1 p 0 (replicate 144 9) (table xs) (replicate 64 9)) true epoch none xs o
+hearing sender epoch p xs o = line (message sender epoch 1 p 0 (replicate (scratchLength 4 1) 9) (table xs) (replicate 64 9)) true epoch none xs o
 
 abbrev agreeing : ℕ → ℕ → ℕ → List Item → Outcome → Line
-agreeing sender epoch p xs o = line (message sender epoch 2 p 0 (replicate 144 9) (table xs) (replicate 64 9)) true epoch none xs o
+agreeing sender epoch p xs o = line (message sender epoch 2 p 0 (replicate (scratchLength 4 1) 9) (table xs) (replicate 64 9)) true epoch none xs o
 
 abbrev sharing : ℕ → ℕ → ℕ → ℕ → List Item → Outcome → Line
 sharing sender epoch p share xs o =
-    line (message sender epoch 3 p share (replicate 144 9) (table xs) (replicate 64 9)) true epoch (some p) xs o
+    line (message sender epoch 3 p share (replicate (scratchLength 4 1) 9) (table xs) (replicate 64 9)) true epoch (some p) xs o
 
 abbrev skipping : ℕ → Line
 skipping target = record { call = skip target; events = λ current. []; current = λ current. max current target }
@@ -174,7 +175,7 @@ hostC =
             first = 2;
             second = 0;
           };
-      words = replicate 80 9;
+      words = replicate (stateLength 4 0) 9;
       calls = callsOf linesC;
     }
 
@@ -194,7 +195,7 @@ hostD =
             first = 2;
             second = 0;
           };
-      words = replicate 144 9;
+      words = replicate (stateLength 4 1) 9;
       calls = callsOf linesD;
     }
 

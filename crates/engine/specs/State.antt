@@ -56,11 +56,11 @@ inputAt = 11
 abbrev pub faultsAt : ℕ
 faultsAt = 12
 
--- from here to its end the header is 0
+-- the header's words from here on are 0
 abbrev pub vacantAt : ℕ
 vacantAt = 13
 
--- where the epochs begin. No law knows the number but `header-first` of proofs/Window.antt, that the header ends at or before it
+-- where the epochs begin. The laws know no more of it than that the header ends at or before it (`header-first` of proofs/Window.antt)
 unfoldable pub epochsAt : ℕ → ℕ
 epochsAt n = headerLength
 
@@ -68,7 +68,7 @@ epochsAt n = headerLength
 abbrev pub stateLength : ℕ → ℕ → ℕ
 stateLength n ahead = epochsAt n + (ahead + 1) * epochLength n
 
--- "4: scratch shorter than the state": how many words of it a call wants. No law knows the number but `scratch-is` of proofs/Refusals.antt
+-- "4: scratch shorter than the state": how many words of it a call wants. The laws know the number in one place (`scratch-is` of proofs/Refusals.antt)
 unfoldable pub scratchLength : ℕ → ℕ → ℕ
 scratchLength n ahead = stateLength n ahead
 

@@ -1,9 +1,20 @@
-// Runs the answer reader, the step's layout and threshold decryption on hand-made answer tables, and writes what they come to.
+// Runs the answer reader, the step's layout and threshold decryption on answer tables that it reads, and writes what they come to.
 // Every step table is filled with 9s first, so that untouched words show.
+//
+// The input is text, at most 65,536 bytes. Each line ends with a newline, and its first byte says what it is; numbers are decimal:
+//
+//     = TEXT                         the text is written
+//     parts KIND WHO TABLE ..        an answer of this kind about this node, with its parts
+//     instance CIPHERTEXT SHARE ..   from here on this is the instance that gets shares; its shares by sender, 0 for none
+//     share SENDER HANDLE TABLE ..   the instance handles a share of this sender, and stays as that leaves it
+//
+// TABLE is the words of an answer table. Any other line is skipped.
 ghost use Prim.Native.Nat.{_≤_, _<_};
+ghost use lib.ListN.{length};
 ghost use Rattle.steps.specs.Network.{Network};
 use decryption::Outcome;
 use decryption::ThresholdDecrypt;
+use libc::STDIN_FILENO;
 use libc::STDOUT_FILENO;
 use steps::network_info::NetworkInfo;
 use steps::reader::Answer;
@@ -127,8 +138,7 @@ fn begin(counted: Step, words: &mut [u64], epoch: u64) -> Step {
 }
 
 // An answer's parts as a step of epoch 3: first counted, then written. A refused one writes nothing, a failed one a header.
-fn parts(title: &[u8], answers: &[u64], kind: u64, who: u64) {
-    say(title);
+fn parts(answers: &[u64], kind: u64, who: u64) {
     if !steps::answers::table_ok(4, answers) {
         say(b"  reply 5\n");
         return;
@@ -192,16 +202,9 @@ fn write_share(
 }
 
 // A share of a sender for proposer 0, at an observer of four nodes: the instance afterwards.
-fn share(
-    title: &[u8],
-    td: ThresholdDecrypt,
-    sender: usize,
-    handle: u64,
-    answers: &[u64],
-) -> ThresholdDecrypt
+fn share(td: ThresholdDecrypt, sender: usize, handle: u64, answers: &[u64]) -> ThresholdDecrypt
     requires { ⌜ sender < 4 ⌝ }
 {
-    say(title);
     let net = network();
     let mut place = first(answers);
     let mut none = [0u64; 1];
@@ -230,186 +233,145 @@ fn share(
     handled.td
 }
 
-// Cases 7 and 8 of document 01's bench: f 1, an observer, and a ciphertext.
-fn shares() {
-    let waiting = ThresholdDecrypt {
-        ciphertext: 9,
-        shares: [0u64; 16],
+// An instance of proposer 0 with a ciphertext, words[0], and shares by sender, the words after it. It has sent its own share.
+fn instance(words: &[u64; 256]) -> ThresholdDecrypt {
+    let mut shares = [0u64; 16];
+    let mut i: usize = 0;
+    while i < 16 {
+        shares[i] = words[i + 1];
+        i += 1;
+    }
+    ThresholdDecrypt {
+        ciphertext: words[0],
+        shares,
         had_input: true,
         terminated: false,
-    };
-    let valid_2 = [1u64, 0, 0, 0, 0, 10, 1, 2];
-    let one = share(b"case 7, one valid share\n", waiting, 2, 31, &valid_2);
-    let valid_3 = [1u64, 0, 0, 0, 0, 10, 1, 3];
-    share(
-        b"case 7, the second without an answer 12\n",
-        one,
-        3,
-        32,
-        &valid_3,
-    );
-    let combined = [1u64, 0, 0, 0, 2, 10, 1, 3, 0, 12, 1, 7];
-    share(
-        b"case 7, the second with an answer 12\n",
-        one,
-        3,
-        32,
-        &combined,
-    );
-    let failed = [1u64, 0, 0, 0, 2, 10, 1, 3, 0, 12, 0, 0];
-    share(b"the second, which does not combine\n", one, 3, 32, &failed);
-    share(
-        b"case 8, a second share of the sender\n",
-        one,
-        2,
-        33,
-        &valid_2,
-    );
-    let invalid_3 = [1u64, 0, 0, 0, 0, 10, 0, 3];
-    share(b"an invalid share\n", one, 3, 32, &invalid_3);
+    }
+}
+
+// The digit that a byte stands for, or 10.
+fn digit(b: u8) -> u64
+    ensures { λ r. ⌜ r ≤ 10 ⌝ }
+{
+    if b < b'0' {
+        return 10;
+    }
+    if b'9' < b {
+        return 10;
+    }
+    (b - b'0') as u64
+}
+
+// A number with one more digit. One that would not fit in a word stays.
+fn with_digit(value: u64, digit: u64) -> u64
+    requires { ⌜ digit ≤ 10 ⌝ }
+{
+    if 1_000_000_000_000_000_000 < value {
+        return value;
+    }
+    value * 10 + digit
+}
+
+// How many numbers have ended, where n had before a byte that is this digit or, at 10, none.
+fn ended(n: usize, inside: bool, digit: u64) -> usize
+    requires { ⌜ n < 256 ⌝ }
+    ensures { λ r. ⌜ r ≤ 256 ⌝ }
+{
+    if inside & (digit == 10) {
+        return n + 1;
+    }
+    n
+}
+
+// The numbers of a line that ends with a newline, into words that are 0; answers how many there are, at most 256.
+fn numbers(line: &[u8], words: &mut [u64; 256]) -> usize
+    ensures { λ r. ⌜ r ≤ 256 ⌝ }
+{
+    let mut n: usize = 0;
+    let mut inside = false;
+    let mut i: usize = 0;
+    while i < line.len() {
+        if n == 256 {
+            return n;
+        }
+        let d = digit(line[i]);
+        if d < 10 {
+            words[n] = with_digit(words[n], d);
+        }
+        n = ended(n, inside, d);
+        inside = d < 10;
+        i += 1;
+    }
+    n
+}
+
+// Where the line that begins here ends: past its newline.
+fn line_end(text: &[u8], from: usize) -> usize
+    requires { ⌜ from < length (now text) ⌝ }
+    ensures { λ r. ⌜ (from < r) × (r ≤ length (now (text .entry))) ⌝ }
+{
+    let mut i = from;
+    while i < text.len() {
+        if text[i] == b'\n' {
+            return i + 1;
+        }
+        i += 1;
+    }
+    i
+}
+
+// What a line with these numbers asks for: the instance after it.
+fn act(what: u8, words: &[u64; 256], n: usize, td: ThresholdDecrypt) -> ThresholdDecrypt
+    requires { ⌜ n ≤ 256 ⌝ }
+{
+    if n < 2 {
+        return td;
+    }
+    let one = words[0];
+    let two = words[1];
+    let all = &words[..];
+    if what == b'p' {
+        parts(&all[2..n], one, two);
+    }
+    if what == b's' {
+        if one < 4 {
+            return share(td, one as usize, two, &all[2..n]);
+        }
+    }
+    td
+}
+
+// One line of the input: the instance after it.
+fn line(text: &[u8], td: ThresholdDecrypt) -> ThresholdDecrypt {
+    if text.len() < 2 {
+        return td;
+    }
+    let what = text[0];
+    if what == b'=' {
+        say(&text[2..]);
+        return td;
+    }
+    let mut words = [0u64; 256];
+    let n = numbers(text, &mut words);
+    if what == b'i' {
+        return instance(&words);
+    }
+    act(what, &words, n, td)
+}
+
+// The lines of the input, in order.
+fn lines(text: &[u8]) {
+    let mut td = ThresholdDecrypt::new();
+    let mut at: usize = 0;
+    while at < text.len() {
+        let end = line_end(text, at);
+        td = line(&text[at..end], td);
+        at = end;
+    }
 }
 
 fn main() {
-    parts(b"an empty chain\n", &[0u64, 0, 0, 0], 4, 2);
-    parts(
-        b"message, fault and two outputs of a broadcast\n",
-        &[
-            1u64,
-            0,
-            0,
-            0,
-            2,
-            4,
-            1,
-            2,
-            3,
-            16,
-            0,
-            55,
-            4,
-            17,
-            3,
-            77,
-            5,
-            18,
-            0,
-            5,
-            0,
-            18,
-            0,
-            6,
-        ],
-        4,
-        2,
-    );
-    parts(
-        b"the same with gaps and rubbish off the chain\n",
-        &[
-            2u64,
-            0,
-            0,
-            0,
-            1,
-            1,
-            1,
-            1,
-            4,
-            4,
-            1,
-            2,
-            99,
-            99,
-            99,
-            99,
-            5,
-            16,
-            0,
-            55,
-            7,
-            17,
-            3,
-            77,
-            0,
-            0,
-            0,
-            0,
-            8,
-            18,
-            0,
-            5,
-            0,
-            18,
-            0,
-            6,
-        ],
-        4,
-        2,
-    );
-    parts(
-        b"two messages of an agreement that decides 1\n",
-        &[
-            1u64,
-            0,
-            0,
-            0,
-            2,
-            5,
-            1,
-            0,
-            3,
-            16,
-            0,
-            7,
-            4,
-            18,
-            0,
-            1,
-            0,
-            16,
-            0,
-            8,
-        ],
-        5,
-        0,
-    );
-    parts(
-        b"an answer without parts\n",
-        &[1u64, 0, 0, 0, 0, 7, 1, 3],
-        7,
-        3,
-    );
-    parts(b"an answer with a 0\n", &[1u64, 0, 0, 0, 0, 6, 0, 1], 6, 1);
-    parts(b"a wrong kind\n", &[1u64, 0, 0, 0, 0, 3, 1, 1], 4, 1);
-    parts(b"a wrong name\n", &[1u64, 0, 0, 0, 0, 4, 1, 1], 4, 2);
-    parts(
-        b"18 with b 2 after kind 5\n",
-        &[1u64, 0, 0, 0, 2, 5, 1, 0, 0, 18, 0, 2],
-        5,
-        0,
-    );
-    parts(
-        b"a part after an answer with a 0\n",
-        &[1u64, 0, 0, 0, 2, 4, 0, 0, 0, 16, 0, 1],
-        4,
-        0,
-    );
-    parts(
-        b"a next that is not above its own index\n",
-        &[1u64, 0, 0, 0, 1, 4, 1, 0],
-        4,
-        0,
-    );
-    parts(
-        b"a next outside the table\n",
-        &[1u64, 0, 0, 0, 2, 4, 1, 0],
-        4,
-        0,
-    );
-    parts(
-        b"a name that is no node\n",
-        &[1u64, 0, 0, 0, 0, 4, 1, 4],
-        4,
-        0,
-    );
-    shares();
+    let mut text = io::large_buffer();
+    let n = io::read_full(STDIN_FILENO, &mut text);
+    lines(&text[..n]);
 }

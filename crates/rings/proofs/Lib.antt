@@ -1,0 +1,2 @@
+-- What is proved of places in a ring, for the crates above it.
+pub mod Places
