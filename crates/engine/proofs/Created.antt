@@ -13,7 +13,7 @@ use Rattle.steps.specs.Numbers.{lastEpoch}
 use Rattle.steps.specs.Table.{within}
 use Rattle.steps.proofs.Laws.{and-true}
 use Rattle.steps.proofs.Ranges.{and-both, zeros-at}
-use Rattle.subset.specs.Words.{epochLength}
+use Rattle.subset.specs.Words.{epochLength, countAt}
 use Rattle.subset.proofs.Ranges.{limit-some}
 use Rattle.epoch.proofs.RangesWords.{all-every}
 use Rattle.engine.specs.Schedule.{scheduleOk, usedFirst, usedSecond}
@@ -155,6 +155,7 @@ module _ (c : Numbers) (h : numbersOk c ≡ true) where
         long = words-long (c .nodes) (c .ahead) (created c) (created-shaped c) e;
         below = λ i. rw (created-epoch c e i) (limit-some (c .nodes) i some);
       })
+      (λ e. omega (arith, created-epoch c e countAt))
 
 pub create-ok : CreateInRange
 unfolding createState

@@ -14,21 +14,24 @@ use Rattle.steps.specs.Answers.{Tape, tapeOf}
 use Rattle.steps.specs.Steps.{Entry, faults}
 use Rattle.steps.specs.Runs.{Verdict, going, refused, failed, Run, ends, onward}
 use Rattle.steps.proofs.Laws.{and-true}
-use Rattle.steps.proofs.Ranges.{by-test, AllSmall, table-small, Kept, Any, kept-going, kept-failed, kept-before, kept-cond, kept-ask, kept-then, kept-inside}
-use Rattle.subset.proofs.Ranges.{SafeEpoch}
+use Rattle.steps.proofs.Ranges.{by-test, AllSmall, table-small, Kept, Any, kept-going, kept-failed, kept-before, kept-cond, kept-ask, kept-then}
+use Rattle.subset.specs.Words.{countOf}
+use Rattle.subset.proofs.Ranges.{EpochOk, SafeEpoch}
 use Rattle.epoch.specs.declared.MessageContent.{MessageContent}
 use Rattle.steps.specs.declared.reader.Content.the-variants.{Broadcast, Agreement}
 use Rattle.epoch.specs.declared.MessageContent.the-variants.{Subset, DecryptionShare}
-use Rattle.epoch.specs.Words.{isVacant}
+use Rattle.epoch.specs.Words.{isVacant, mostKept}
 use Rattle.epoch.specs.Batch.{isReady, outputBatch}
+use Rattle.epoch.proofs.Lists.{new-epoch-none, propose-keeps, content-keeps}
 use Rattle.epoch.proofs.Ranges.{ContentOk, new-epoch-ok, batch-safe, propose-safe, content-safe}
-use Rattle.engine.specs.State.{nodes, ahead, currentEpoch, faultCount, inputAt, faultsAt, epochAt, netOf, strategyOf, encryptedIn, epochWords, withEpoch, withoutEpoch, stateOk}
+use Rattle.engine.specs.State.{nodes, ahead, currentEpoch, faultCount, inputAt, faultsAt, epochAt, netOf, strategyOf, encryptedIn, epochWords, withoutEpoch, stateOk}
 use Rattle.engine.specs.HoneyBadger.{updateEpoch, epochStateMut, inEpoch, tryOutputBatches, propose, handleMessage, clearBelow, skipToEpoch}
 use Rattle.engine.specs.Calls.{After, countFaults, isEnd, concludeAs, proposeAfter, messageCall, contentOk, itemOk, contentOf, skipReply, skipState}
 use Rattle.engine.specs.History.{propose as proposing, message as messaging, skip as skipping, stateAfter}
 use Rattle.engine.specs.Rule.{CallsInRange}
 use Rattle.engine.proofs.Checks.{by-branch, by-propose, by-message}
-use Rattle.engine.proofs.RangesState.{StateOk, input-ok, epoch-ok, faults-ok, nodes-same, ahead-same, current-below, words-ok, with-ok, without-ok, state-wider, header-ok, enter, leave}
+use Rattle.engine.proofs.Looping.{same-batch}
+use Rattle.engine.proofs.RangesState.{StateOk, input-ok, epoch-ok, faults-ok, nodes-same, ahead-same, strategy-same, current-below, words-ok, with-ok, without-ok, state-wider, header-ok, enter, leave}
 
 -- the runs of a state that came from w, whose nodes are 1 to 16
 module _ (w : List ℕ) (some : 0 < nodes w) (few : nodes w ≤ 16) where
@@ -48,15 +51,20 @@ module _ (w : List ℕ) (some : 0 < nodes w) (few : nodes w ≤ 16) where
   mut-safe b epoch v p h o =
       kept-cond (isVacant (epochWords v epoch)) _ _
       (λ _. kept-ask p 1 v _ refl h o (λ x y q _ o.
-      kept-cond (eqb x 0) _ _ (λ _. kept-failed h o) (λ _. kept-going (with-ok w b some v h epoch _ (rw (nodes-same w b some v h) (new-epoch-ok (nodes w) some))) o tt)))
+      kept-cond (eqb x 0) _ _ (λ _. kept-failed h o) (λ _. kept-going (with-ok w b some v h epoch _ (rw (nodes-same w b some v h) (new-epoch-ok (nodes w) some)) (omega (arith, new-epoch-none (nodes v)))) o tt)))
       (λ _. kept-going h o tt)
 
-  in-safe : (b epoch : ℕ) (v : List ℕ) (p : Tape) (call : List ℕ → Tape → Run (List ℕ) (Unit {0})) → StateOk w b v → AllSmall (p .rest) → SafeEpoch (nodes v) call
+  -- a call of an epoch that ends with its words in range keeps no more contributions than it may
+  abbrev Lists : (List ℕ → Tape → Run (List ℕ) (Unit {0})) → Type 0
+  Lists call = (x : List ℕ) (p : Tape) → countOf x ≤ mostKept (strategyOf w) (nodes w) → EpochOk (nodes w) (call x p .state) → countOf (call x p .state) ≤ mostKept (strategyOf w) (nodes w)
+
+  in-safe : (b epoch : ℕ) (v : List ℕ) (p : Tape) (call : List ℕ → Tape → Run (List ℕ) (Unit {0})) → StateOk w b v → AllSmall (p .rest) → SafeEpoch (nodes v) call → Lists call
       → Kept (StateOk w b) Any (inEpoch epoch call v p)
   unfolding inEpoch
-  in-safe b epoch v p call h o s =
+  in-safe b epoch v p call h o s l =
       let e = nodes-same w b some v h in
-      kept-inside (withEpoch v epoch) _ (λ x u. with-ok w b some v h epoch x u) (subst (λ (n : ℕ). SafeEpoch n call) e s (epochWords v epoch) p (words-ok w b some v h epoch) o)
+      let k = subst (λ (n : ℕ). SafeEpoch n call) e s (epochWords v epoch) p (words-ok w b some v h epoch) o in
+      record { state = with-ok w b some v h epoch _ (k .state) (l (epochWords v epoch) p (h .lists epoch) (k .state)); tape = k .tape; value = k .value }
 
   batches-safe : (m b : ℕ) → SafeState b (b + m) (tryOutputBatches m)
   unfolding tryOutputBatches
@@ -69,7 +77,7 @@ module _ (w : List ℕ) (some : 0 < nodes w) (few : nodes w ≤ 16) where
             | false ↦ ends (going tt) v p
           ])
       go true f =
-          kept-then _ _ (state-wider w b (b + suc m) (omega arith)) (in-safe b (currentEpoch v) v p _ h o (batch-safe (nodes v) (currentEpoch v))) (λ _ v q h o _.
+          kept-then _ _ (state-wider w b (b + suc m) (omega arith)) (in-safe b (currentEpoch v) v p _ h o (batch-safe (nodes v) (currentEpoch v)) (λ x q k _. rw (same-batch (nodes v) (currentEpoch v) x q) k)) (λ _ v q h o _.
           let e : (b + 1) + m ≡ b + suc m = omega arith in
           subst (λ (c : ℕ). Kept (StateOk w c) Any (tryOutputBatches m (updateEpoch v) q)) e (f (updateEpoch v) q (update-ok b v h) o))
       go false f = kept-going (state-wider w b (b + suc m) (omega arith) v h) o tt
@@ -90,7 +98,8 @@ module _ (w : List ℕ) (some : 0 < nodes w) (few : nodes w ≤ 16) where
       kept-cond (isValidator (netOf v)) _ _
       (λ _. kept-then _ _ (state-wider w b _ (omega arith)) (mut-safe b (currentEpoch v) _ p (input-ok w b some v h 1 (omega arith)) o) (λ _ v q h o _.
       kept-then _ _ (state-wider w b _ (omega arith))
-      (in-safe b (currentEpoch v) v q _ h o (propose-safe (netOf v) (at-least b v h) (at-most b v h) (strategyOf v) (encryptedIn v (currentEpoch v))))
+      (in-safe b (currentEpoch v) v q _ h o (propose-safe (netOf v) (at-least b v h) (at-most b v h) (strategyOf v) (encryptedIn v (currentEpoch v)))
+      (rw (← strategy-same w b some v h, ← nodes-same w b some v h) (λ x q k u. propose-keeps (netOf v) (encryptedIn v (currentEpoch v)) x q (strategyOf v) k u)))
       (λ _ v q h o _. output-safe b v q h o)))
       (λ _. kept-going (state-wider w b _ (omega arith) v h) o tt)
 
@@ -102,7 +111,8 @@ module _ (w : List ℕ) (some : 0 < nodes w) (few : nodes w ≤ 16) where
       (λ _. kept-cond (ltb epoch (currentEpoch v)) _ _ (λ _. kept-going (state-wider w b _ (omega arith) v h) o tt)
       (λ _. kept-then _ _ (state-wider w b _ (omega arith)) (mut-safe b epoch v p h o) (λ _ v q h o _.
       kept-then _ _ (state-wider w b _ (omega arith))
-      (in-safe b epoch v q _ h o (content-safe (netOf v) (at-least b v h) (at-most b v h) (strategyOf v) (encryptedIn v epoch) sender proposer content (known b v h) u))
+      (in-safe b epoch v q _ h o (content-safe (netOf v) (at-least b v h) (at-most b v h) (strategyOf v) (encryptedIn v epoch) sender proposer content (known b v h) u)
+      (rw (← strategy-same w b some v h, ← nodes-same w b some v h) (λ x q k u. content-keeps (netOf v) (encryptedIn v epoch) x q (strategyOf v) sender proposer content k u)))
       (λ _ v q h o _. output-safe b v q h o))))
     where
       known : (b : ℕ) (v : List ℕ) → StateOk w b v → proposer < nodes v

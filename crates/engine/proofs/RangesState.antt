@@ -12,29 +12,29 @@ use borrow.Author.Tests.{eqb-true, eqb-false, leb-true, ltb-true, eq-eqb, le-leb
 use Rattle.steps.specs.Numbers.{lastEpoch, faultLimit}
 use Rattle.steps.specs.Network.{Network}
 use Rattle.steps.proofs.Laws.{and-true}
-use Rattle.steps.proofs.Ranges.{and-both, below-zeros}
-use Rattle.subset.specs.Words.{epochLength}
+use Rattle.steps.proofs.Ranges.{and-both, zeros-at, below-zeros}
+use Rattle.subset.specs.Words.{epochLength, countAt, countOf}
 use Rattle.subset.proofs.Ranges.{limitAt, limit-some, EpochOk}
-use Rattle.epoch.specs.Words.{epochInRange}
-use Rattle.epoch.proofs.RangesWords.{all-at, all-every, epoch-below, epoch-in}
-use Rattle.engine.specs.State.{headerLength, profileAt, nodesAt, faultyAt, aheadAt, ownAt, keyAt, strategyAt, scheduleAt, firstNumberAt, secondNumberAt, epochAt, inputAt, faultsAt, vacantAt, epochsAt, stateLength, nodes, ahead, currentEpoch, input, faultCount, netOf, epochWords, withEpoch, withoutEpoch, allHold, headerTests, headerInRange, epochsInRange, stateOk}
+use Rattle.epoch.specs.Words.{mostKept, epochInRange}
+use Rattle.epoch.proofs.RangesWords.{all-at, all-every, epoch-below, epoch-keeps, epoch-in}
+use Rattle.engine.specs.State.{headerLength, profileAt, nodesAt, faultyAt, aheadAt, ownAt, keyAt, strategyAt, scheduleAt, firstNumberAt, secondNumberAt, epochAt, inputAt, faultsAt, vacantAt, epochsAt, stateLength, nodes, ahead, currentEpoch, input, faultCount, netOf, strategyOf, epochWords, withEpoch, withoutEpoch, allHold, headerTests, headerInRange, epochsInRange, stateOk}
 use Rattle.engine.proofs.Bools.{test-holds}
 use Rattle.engine.proofs.Window.{Shaped, header-first, words-are, words-long, with-head, with-shaped, with-place, with-other, set-shaped, set-words}
 
 -- A ROW OF EPOCHS
 module _ (w : List ℕ) where
   epochs-at : (m at : ℕ) → epochsInRange w m at ≡ true → (k : ℕ) → k < m
-      → epochInRange (nodes w) (take (epochLength (nodes w)) (drop (at + k * epochLength (nodes w)) w)) ≡ true
+      → epochInRange (strategyOf w) (nodes w) (take (epochLength (nodes w)) (drop (at + k * epochLength (nodes w)) w)) ≡ true
   unfolding epochsInRange
   epochs-at zero at e k l = absurd (omega arith)
   epochs-at (suc m) at e zero l =
       let z : at + 0 * epochLength (nodes w) ≡ at = omega arith in
-      rw z (and-true (epochInRange (nodes w) (take (epochLength (nodes w)) (drop at w))) _ e .0)
+      rw z (and-true (epochInRange (strategyOf w) (nodes w) (take (epochLength (nodes w)) (drop at w))) _ e .0)
   epochs-at (suc m) at e (suc k) l =
       let z : at + suc k * epochLength (nodes w) ≡ (at + epochLength (nodes w)) + k * epochLength (nodes w) = omega (arith, suc-mul k (epochLength (nodes w))) in
-      rw z (epochs-at m (at + epochLength (nodes w)) (and-true (epochInRange (nodes w) (take (epochLength (nodes w)) (drop at w))) _ e .1) k (omega arith))
+      rw z (epochs-at m (at + epochLength (nodes w)) (and-true (epochInRange (strategyOf w) (nodes w) (take (epochLength (nodes w)) (drop at w))) _ e .1) k (omega arith))
 
-  epochs-in : (m at : ℕ) → ((k : ℕ) → k < m → epochInRange (nodes w) (take (epochLength (nodes w)) (drop (at + k * epochLength (nodes w)) w)) ≡ true)
+  epochs-in : (m at : ℕ) → ((k : ℕ) → k < m → epochInRange (strategyOf w) (nodes w) (take (epochLength (nodes w)) (drop (at + k * epochLength (nodes w)) w)) ≡ true)
       → epochsInRange w m at ≡ true
   unfolding epochsInRange
   epochs-in zero at f = refl
@@ -46,12 +46,14 @@ module _ (w : List ℕ) where
       rw z at (f (suc k) (omega arith))))
 
 -- a state of the right length, whose header and epochs keep the rule
-pub ok-by : (w : List ℕ) → headerInRange w ≡ true → length w ≡ stateLength (nodes w) (ahead w) → ((e : ℕ) → EpochOk (nodes w) (epochWords w e)) → stateOk w ≡ true
+pub ok-by : (w : List ℕ) → headerInRange w ≡ true → length w ≡ stateLength (nodes w) (ahead w) → ((e : ℕ) → EpochOk (nodes w) (epochWords w e))
+    → ((e : ℕ) → countOf (epochWords w e) ≤ mostKept (strategyOf w) (nodes w)) → stateOk w ≡ true
 unfolding stateOk
-ok-by w head long words =
+ok-by w head long words lists =
     and-both _ _ (and-both _ _ head (eq-eqb _ _ long)) (epochs-in w (ahead w + 1) (epochsAt (nodes w)) (λ k l.
     let e : k % (ahead w + 1) ≡ k = mod-eq-of-lt l in
-    epoch-in (nodes w) _ (rw (words-are (nodes w) (ahead w) w (record { long = long; nodes = refl; ahead = refl }) k, e) at (words k))))
+    let are = words-are (nodes w) (ahead w) w (record { long = long; nodes = refl; ahead = refl }) k in
+    epoch-in (nodes w) _ (strategyOf w) (rw (are, e) at (words k)) (rw (are, e) at (lists k))))
 
 -- what the rule says of the header
 pub record HeaderOk (w : List ℕ) : Type 0 where
@@ -92,12 +94,17 @@ module _ (w : List ℕ) (ok : stateOk w ≡ true) where
   unfolding stateOk
   shaped = record { long = eqb-true _ _ (and-true (headerInRange w) _ (and-true _ _ ok .0) .1); nodes = refl; ahead = refl }
 
-  pub words-in-range : (e : ℕ) → EpochOk (nodes w) (epochWords w e)
+  in-range : (e : ℕ) → epochInRange (strategyOf w) (nodes w) (epochWords w e) ≡ true
   unfolding stateOk
-  words-in-range e =
-      epoch-below (nodes w) _ (header-ok .some) (words-long (nodes w) (ahead w) w shaped e)
-      (rw (words-are (nodes w) (ahead w) w shaped e)
-      (epochs-at w (ahead w + 1) (epochsAt (nodes w)) (and-true (headerInRange w && eqb (length w) (stateLength (nodes w) (ahead w))) _ ok .1) (e % (ahead w + 1)) (mod-lt e (omega arith))))
+  in-range e =
+      rw (words-are (nodes w) (ahead w) w shaped e)
+      (epochs-at w (ahead w + 1) (epochsAt (nodes w)) (and-true (headerInRange w && eqb (length w) (stateLength (nodes w) (ahead w))) _ ok .1) (e % (ahead w + 1)) (mod-lt e (omega arith)))
+
+  pub words-in-range : (e : ℕ) → EpochOk (nodes w) (epochWords w e)
+  words-in-range e = epoch-below (nodes w) _ (strategyOf w) (header-ok .some) (words-long (nodes w) (ahead w) w shaped e) (in-range e)
+
+  pub lists-in-range : (e : ℕ) → countOf (epochWords w e) ≤ mostKept (strategyOf w) (nodes w)
+  lists-in-range e = epoch-keeps (nodes w) _ (strategyOf w) (in-range e)
 
 -- A STATE v THAT CAME FROM w: the numbers of its creation are the same, and each word is in its range, the current epoch at most the bound
 pub record StateOk (w : List ℕ) (bound : ℕ) (v : List ℕ) : Type 0 where
@@ -108,11 +115,12 @@ pub record StateOk (w : List ℕ) (bound : ℕ) (v : List ℕ) : Type 0 where
   pub counted : faultCount v ≤ faultLimit
   pub rest : (k : ℕ) → k < headerLength - vacantAt → getD v (vacantAt + k) 0 ≡ 0
   pub words : (e : ℕ) → EpochOk (nodes w) (epochWords v e)
+  pub lists : (e : ℕ) → countOf (epochWords v e) ≤ mostKept (strategyOf w) (nodes w)
 
 -- a higher bound
 pub state-wider : (w : List ℕ) (b c : ℕ) → b ≤ c → (v : List ℕ) → StateOk w b v → StateOk w c v
 state-wider w b c l v h =
-    record { shape = h .shape; same = h .same; epoch = omega (arith, h .epoch); given = h .given; counted = h .counted; rest = h .rest; words = h .words }
+    record { shape = h .shape; same = h .same; epoch = omega (arith, h .epoch); given = h .given; counted = h .counted; rest = h .rest; words = h .words; lists = h .lists }
 
 -- WHAT THE ENGINE WRITES
 module _ (w : List ℕ) (bound : ℕ) (some : 0 < nodes w) (v : List ℕ) (h : StateOk w bound v) where
@@ -131,6 +139,7 @@ module _ (w : List ℕ) (bound : ℕ) (some : 0 < nodes w) (v : List ℕ) (h : S
           counted = c;
           rest = λ k l. getD-set-other v j (vacantAt + k) x 0 (λ e. omega arith) ∙ h .rest k l;
           words = λ e. rw (set-words (nodes w) (ahead w) v (h .shape) j x (omega arith) (omega arith) e) (h .words e);
+          lists = λ e. rw (set-words (nodes w) (ahead w) v (h .shape) j x (omega arith) (omega arith) e) (h .lists e);
         }
 
   pub input-ok : (x : ℕ) → x < 2 → StateOk w bound (set v inputAt x)
@@ -155,6 +164,10 @@ module _ (w : List ℕ) (bound : ℕ) (some : 0 < nodes w) (v : List ℕ) (h : S
   pub ahead-same : ahead v ≡ ahead w
   ahead-same = h .shape .ahead
 
+  pub strategy-same : strategyOf v ≡ strategyOf w
+  unfolding strategyOf
+  strategy-same = rw (h .same strategyAt (omega arith))
+
   pub current-below : currentEpoch v ≤ bound
   current-below = h .epoch
 
@@ -162,8 +175,8 @@ module _ (w : List ℕ) (bound : ℕ) (some : 0 < nodes w) (v : List ℕ) (h : S
   words-ok = h .words
 
   -- an epoch
-  pub with-ok : (epoch : ℕ) (x : List ℕ) → EpochOk (nodes w) x → StateOk w bound (withEpoch v epoch x)
-  with-ok epoch x u =
+  pub with-ok : (epoch : ℕ) (x : List ℕ) → EpochOk (nodes w) x → countOf x ≤ mostKept (strategyOf w) (nodes w) → StateOk w bound (withEpoch v epoch x)
+  with-ok epoch x u k =
       record {
         shape = with-shaped (nodes w) (ahead w) v (h .shape) epoch x (u .long);
         same = λ i m. head i (omega arith) ∙ h .same i m;
@@ -172,6 +185,7 @@ module _ (w : List ℕ) (bound : ℕ) (some : 0 < nodes w) (v : List ℕ) (h : S
         counted = rw (head faultsAt (omega arith)) (h .counted);
         rest = λ k l. head (vacantAt + k) (omega arith) ∙ h .rest k l;
         words = λ d. go d (eqb (epoch % (ahead w + 1)) (d % (ahead w + 1))) refl;
+        lists = λ d. list d (eqb (epoch % (ahead w + 1)) (d % (ahead w + 1))) refl;
       }
     where
       head : (i : ℕ) → i < headerLength → getD (withEpoch v epoch x) i 0 ≡ getD v i 0
@@ -181,10 +195,15 @@ module _ (w : List ℕ) (bound : ℕ) (some : 0 < nodes w) (v : List ℕ) (h : S
       go d true e = rw (with-place (nodes w) (ahead w) v (h .shape) epoch d x (u .long) (eqb-true _ _ e)) u
       go d false e = rw (with-other (nodes w) (ahead w) v (h .shape) epoch d x (u .long) (eqb-false _ _ e)) (h .words d)
 
+      list : (d : ℕ) (t : Bool) → eqb (epoch % (ahead w + 1)) (d % (ahead w + 1)) ≡ t → countOf (epochWords (withEpoch v epoch x) d) ≤ mostKept (strategyOf w) (nodes w)
+      list d true e = rw (with-place (nodes w) (ahead w) v (h .shape) epoch d x (u .long) (eqb-true _ _ e)) k
+      list d false e = rw (with-other (nodes w) (ahead w) v (h .shape) epoch d x (u .long) (eqb-false _ _ e)) (h .lists d)
+
   pub without-ok : (epoch : ℕ) → StateOk w bound (withoutEpoch v epoch)
   unfolding withoutEpoch
   without-ok epoch =
       with-ok epoch _ (rw nodes-same (below-zeros (limitAt (nodes w)) (epochLength (nodes w)) (λ i. limit-some (nodes w) i some)))
+      (omega (arith, zeros-at (epochLength (nodes v)) countAt))
 
 -- THE RULE AND THESE. A state that keeps the rule
 module _ (w : List ℕ) (ok : stateOk w ≡ true) where
@@ -198,6 +217,7 @@ module _ (w : List ℕ) (ok : stateOk w ≡ true) where
         counted = header-ok w ok .counted;
         rest = header-ok w ok .rest;
         words = words-in-range w ok;
+        lists = lists-in-range w ok;
       }
 
   -- and one that came from it
@@ -231,4 +251,6 @@ module _ (w : List ℕ) (ok : stateOk w ≡ true) where
       ) (and-both _ _ (all-every (λ x. eqb x 0) (headerLength - vacantAt) vacantAt v (λ k l. eq-eqb _ _ (h .rest k l))) refl)
 
   pub leave : (v : List ℕ) → StateOk w (lastEpoch + ahead w + 1) v → stateOk v ≡ true
-  leave v h = ok-by v (header-left v h) (rw (h .shape .nodes, h .shape .ahead) (h .shape .long)) (λ e. rw (h .shape .nodes) (h .words e))
+  leave v h =
+      ok-by v (header-left v h) (rw (h .shape .nodes, h .shape .ahead) (h .shape .long)) (λ e. rw (h .shape .nodes) (h .words e))
+      (λ e. rw (h .shape .nodes, strategy-same w (lastEpoch + ahead w + 1) (header-ok w ok .some) v h) (h .lists e))

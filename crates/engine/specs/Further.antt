@@ -1,5 +1,5 @@
 -- Cases beyond the twelve, in the language of Cases.antt: failed calls, the checks and their order, batches and has input, create's bounds,
--- proposals and shares that are not looked at, votes above N−f.
+-- proposals and shares that are not looked at, votes above N−f, lists kept.
 use mathlib.Core.Path.{refl}
 use mathlib.Core.List.{List, [], _∷_, _++_}
 use lib.ListN.{replicate}
@@ -166,6 +166,20 @@ case-19 =
     ∷ (agreement 6 (yes 5 6 ∷ []) ⇒ passes)
     ∷ []
 
+-- CASE 20. Contributions are kept between calls under AllAtEnd only: word 3 of the first epoch is 0 under Incremental, else at most N
+abbrev pub case-20 : List Row
+case-20 =
+    (create (numbers 4 1 0 0 1 0 0 1 0 0) 80 ⇒ 0 ∷ [])
+    ∷ (currentEpoch ⇒ 0 ∷ 0 ∷ [])
+    ∷ (putWord 19 1 ⇒ [])
+    ∷ (currentEpoch ⇒ 3 ∷ 9 ∷ [])
+    ∷ (create (numbers 4 1 0 0 1 1 0 1 0 0) 80 ⇒ 0 ∷ [])
+    ∷ (putWord 19 4 ⇒ [])
+    ∷ (currentEpoch ⇒ 0 ∷ 0 ∷ [])
+    ∷ (putWord 19 5 ⇒ [])
+    ∷ (currentEpoch ⇒ 3 ∷ 9 ∷ [])
+    ∷ []
+
 -- THE TABLE
 unfoldable pub further : List Case
 further =
@@ -176,8 +190,9 @@ further =
     ∷ case 17 case-17
     ∷ caseAfter 18 case-7 case-18
     ∷ case 19 case-19
+    ∷ case 20 case-20
     ∷ []
 
 pub further-cases : AllHold further
 unfolding Cases.openedHere further
-further-cases = (refl, (refl, (refl, (refl, (refl, (refl, (refl, tt)))))))
+further-cases = (refl, (refl, (refl, (refl, (refl, (refl, (refl, (refl, tt))))))))

@@ -177,7 +177,7 @@ module _ (w : List ℕ) where
   -- the next m epochs, from the word at on
   unfoldable pub epochsInRange : ℕ → ℕ → Bool
   epochsInRange zero at = true
-  epochsInRange (suc m) at = epochInRange nodes (take (epochLength nodes) (drop at w)) && epochsInRange m (at + epochLength nodes)
+  epochsInRange (suc m) at = epochInRange strategyOf nodes (take (epochLength nodes) (drop at w)) && epochsInRange m (at + epochLength nodes)
 
   unfoldable pub stateOk : Bool
   stateOk = headerInRange && eqb (length w) (stateLength nodes ahead) && epochsInRange (ahead + 1) (epochsAt nodes)

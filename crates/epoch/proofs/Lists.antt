@@ -1,12 +1,12 @@
 -- UNDER INCREMENTAL NO CONTRIBUTION IS KEPT BETWEEN CALLS: where none was kept before a call of an epoch, none is afterwards, whatever the
 -- verdict. Assumes nothing.
-use Prim.Native.Nat.{ℕ, zero, suc, _+_, _-_}
+use Prim.Native.Nat.{ℕ, zero, suc, _+_, _-_, _≤_}
 use mathlib.Core.Path.{_≡_, refl, ap, _∙_}
 use mathlib.Core.List.{List}
 use mathlib.Core.Bool.{Bool, true, false, cond}
 use mathlib.Core.Option.{Option}
 use native.Mathlib.Omega.{arith}
-use lib.ListN.{length, getD, set, List·getD-eq-default}
+use lib.ListN.{replicate, length, getD, set, List·getD-eq-default}
 use lib.Seq.{getD-set-same, getD-set-other, set-out}
 use lib.Dec.{eqb, ltb}
 use borrow.Author.Tests.{ltb-true, ltb-false}
@@ -15,12 +15,15 @@ use Rattle.steps.specs.declared.reader.Answer.{Answer}
 use Rattle.steps.specs.declared.reader.Answer.the-variants.{Got, Refused}
 use Rattle.steps.specs.Answers.{Tape, Asked, ask}
 use Rattle.steps.specs.Runs.{Verdict, going, refused, failed, Run, onwardAs, onward, heardAs, heard, inside}
+use Rattle.steps.proofs.Ranges.{zeros-at}
 use Rattle.decryption.specs.declared.ThresholdDecrypt.{ThresholdDecrypt}
-use Rattle.subset.specs.Words.{statusAt, decidedAt, countAt, countOf, dropFrom}
-use Rattle.epoch.specs.declared.SubsetHandlingStrategy.the-variants.{Incremental}
+use Rattle.subset.specs.Words.{epochLength, statusOngoing, newEpoch, statusAt, decidedAt, countAt, countOf, dropFrom}
+use Rattle.subset.proofs.Ranges.{limitAt, EpochOk}
+use Rattle.epoch.specs.declared.SubsetHandlingStrategy.{SubsetHandlingStrategy}
+use Rattle.epoch.specs.declared.SubsetHandlingStrategy.the-variants.{Incremental, AllAtEnd}
 use Rattle.epoch.specs.declared.MessageContent.{MessageContent}
 use Rattle.epoch.specs.declared.MessageContent.the-variants.{Subset, DecryptionShare}
-use Rattle.epoch.specs.Words.{isComplete, storeDecryption}
+use Rattle.epoch.specs.Words.{isComplete, storeDecryption, mostKept}
 use Rattle.epoch.specs.Epoch.{firstContributions, entryAfter, handlesNow, subsetComplete, processDecryption, finishAt, finishFrom, handleContributions, processSubset, handedUp, callSubset, propose, handleMessageContent}
 use Rattle.epoch.proofs.Entries.{store-low}
 use Rattle.epoch.proofs.Shares.{by-entry, by-share}
@@ -29,6 +32,11 @@ use Rattle.epoch.proofs.Orders.{finish-words}
 -- nothing is kept
 abbrev pub NoneKept : List ℕ → Type 0
 NoneKept w = countOf w ≡ 0
+
+-- an epoch that has just been built
+pub new-epoch-none : (n : ℕ) → NoneKept (newEpoch n)
+unfolding newEpoch
+new-epoch-none n = getD-set-other (replicate (epochLength n) 0) statusAt countAt statusOngoing 0 (λ e. omega arith) ∙ zeros-at (epochLength n) countAt
 
 -- a run that ends so, whatever its verdict
 module _ {A : Type 0} where
@@ -116,3 +124,18 @@ module _ (net : NetworkInfo) where
     content-none sender p (Subset content) w u h = call-none _ w u h
     content-none sender p (DecryptionShare share) w u h =
         by-share net p w u (λ r. NoneKept (r .state)) sender share h (by-entry net p w u (λ r. NoneKept (r .state)) _ (process-none p w _ h) h)
+
+-- SO THE RANGE RULE'S WORD 3 IS KEPT: a call that ends with its words in range keeps no more contributions than the strategy allows
+module _ (net : NetworkInfo) (encrypted : Bool) (w : List ℕ) (u : Tape) where
+  pub propose-keeps : (strategy : SubsetHandlingStrategy) → countOf w ≤ mostKept strategy (net .«num_nodes») → EpochOk (net .«num_nodes») (propose net strategy encrypted w u .state)
+      → countOf (propose net strategy encrypted w u .state) ≤ mostKept strategy (net .«num_nodes»)
+  unfolding mostKept limitAt
+  propose-keeps Incremental h k = omega (arith, propose-none net encrypted w u (omega arith))
+  propose-keeps AllAtEnd h k = omega (arith, k .below countAt)
+
+  pub content-keeps : (strategy : SubsetHandlingStrategy) (sender p : ℕ) (content : MessageContent) → countOf w ≤ mostKept strategy (net .«num_nodes»)
+      → EpochOk (net .«num_nodes») (handleMessageContent net strategy encrypted sender p content w u .state)
+      → countOf (handleMessageContent net strategy encrypted sender p content w u .state) ≤ mostKept strategy (net .«num_nodes»)
+  unfolding mostKept limitAt
+  content-keeps Incremental sender p content h k = omega (arith, content-none net encrypted sender p content w u (omega arith))
+  content-keeps AllAtEnd sender p content h k = omega (arith, k .below countAt)

@@ -2,7 +2,7 @@
 use Prim.Native.Nat.{ℕ, zero, suc, _+_, _*_, _/_, _-_, _%_, _^_, _≤_, _<_}
 use mathlib.Core.Path.{_≡_, refl, ap, _∙_}
 use mathlib.Core.List.{List, [], _∷_, _++_}
-use mathlib.Core.Bool.{Bool, true, false, cond}
+use mathlib.Core.Bool.{Bool, true, false, cond, _&&_}
 use native.Mathlib.Omega.{arith}
 use native.Mathlib.Nat.{div-add-mod, div-add-mod', mod-lt, div-lt-iff-lt-mul, mul-le-mul-right, two-pow-succ, zero-add}
 use lib.ListN.{length, getD, replicate, length-append, length-replicate, List·getD-eq-default}
@@ -15,9 +15,11 @@ use Rattle.steps.proofs.Ranges.{and-both, Below, zeros-at}
 use Rattle.decryption.specs.declared.ThresholdDecrypt.{ThresholdDecrypt}
 use Rattle.decryption.specs.Decrypt.{new}
 use Rattle.decryption.proofs.Ranges.{handles, InstanceOk, new-ok}
-use Rattle.subset.specs.Words.{recordLength, epochLength, statusAt, decidedAt, acceptedAt, countAt, recordAt, proposalAt}
+use Rattle.subset.specs.Words.{recordLength, epochLength, statusAt, decidedAt, acceptedAt, acceptedOf, countOf, statusOf, statusComplete, recordAt, proposalAt}
 use Rattle.subset.proofs.Ranges.{ownLimit, fieldLimit, limitAt, limit-own, limit-field, limit-share, limit-some, two-some, EpochOk, set-field, set-own, field-below}
-use Rattle.epoch.specs.Words.{accept, DecryptionState, missing, ongoing, complete, decryptionAt, hadInputAt, terminatedAt, shareAt, sharesFrom, entryNone, loadInstance, loadEntry, setShares, flag, storeEntry, storeDecryption, maybeHandle, allFrom, recordInRange, recordsInRange, epochInRange}
+use Rattle.epoch.specs.declared.SubsetHandlingStrategy.{SubsetHandlingStrategy}
+use Rattle.epoch.specs.declared.SubsetHandlingStrategy.the-variants.{Incremental, AllAtEnd}
+use Rattle.epoch.specs.Words.{accept, DecryptionState, missing, ongoing, complete, decryptionAt, hadInputAt, terminatedAt, shareAt, sharesFrom, entryNone, loadInstance, loadEntry, setShares, flag, storeEntry, storeDecryption, maybeHandle, allFrom, recordInRange, recordsInRange, mostKept, epochInRange}
 
 -- THE ACCEPTED PROPOSERS. A bit below n leaves the word below 2^n
 module _ (n x i : ℕ) (l : i < n) (h : x < 2 ^ n) where
@@ -205,6 +207,12 @@ unfolding recordsInRange
 records-in n zero p w h = refl
 records-in n (suc m) p w h = and-both _ _ (record-in n w p h) (records-in n m (p + 1) w h)
 
+-- no list is longer than there are proposers
+pub most-kept : (strategy : SubsetHandlingStrategy) (n : ℕ) → mostKept strategy n ≤ n
+unfolding mostKept
+most-kept Incremental n = omega arith
+most-kept AllAtEnd n = omega arith
+
 -- of the whole epoch
 module _ (n : ℕ) (w : List ℕ) where
   own-below : getD w 0 0 < 3 → getD w 1 0 < 2 → getD w 2 0 < 2 ^ n → getD w 3 0 < n + 1 → ((k : ℕ) → k < 12 → getD w (4 + k) 0 ≡ 0)
@@ -229,9 +237,9 @@ module _ (n : ℕ) (w : List ℕ) where
       go : (p j : ℕ) → p < n → j < recordLength n → i ≡ recordAt n p j → getD w i 0 < limitAt n i
       go p j d m z = rw (z, limit-field n p j m) (record-below n w p (rw zero-add at (records-at n n 0 w e p d)) j m)
 
-  pub epoch-below : 0 < n → length w ≡ epochLength n → epochInRange n w ≡ true → EpochOk n w
+  pub epoch-below : (strategy : SubsetHandlingStrategy) → 0 < n → length w ≡ epochLength n → epochInRange strategy n w ≡ true → EpochOk n w
   unfolding epochInRange
-  epoch-below some long e =
+  epoch-below strategy some long e =
       let e5 = and-true _ _ e in
       let e4 = and-true _ _ (e5 .0) in
       let e3 = and-true _ _ (e4 .0) in
@@ -244,7 +252,7 @@ module _ (n : ℕ) (w : List ℕ) where
             (leb-below _ 2 (e1 .0))
             (leb-below _ 1 (e1 .1))
             (ltb-true _ _ (e2 .1))
-            (leb-below _ n (e3 .1))
+            (omega (arith, leb-true (countOf w) (mostKept strategy n) (e3 .1), most-kept strategy n))
             (λ k l. eqb-true _ _ (all-at (λ x. eqb x 0) 12 4 w (e4 .1) k l)))
             (e5 .1) i (ltb i 16) refl (ltb i (length w)) refl;
       }
@@ -254,14 +262,22 @@ module _ (n : ℕ) (w : List ℕ) where
       go f r i false a true b = field-at r long i (ltb-false _ _ a) (ltb-true _ _ b)
       go f r i true a true b = rw (limit-own n i (ltb-true i 16 a)) (f i (ltb-true i 16 a))
 
-  pub epoch-in : EpochOk n w → epochInRange n w ≡ true
+  -- and keeps no more contributions than it may
+  pub epoch-keeps : (strategy : SubsetHandlingStrategy) → epochInRange strategy n w ≡ true → countOf w ≤ mostKept strategy n
+  unfolding epochInRange
+  epoch-keeps strategy e =
+      let three = leb (statusOf w) statusComplete && leb (getD w decidedAt 0) 1 && ltb (acceptedOf w) (2 ^ n) in
+      let four = three && leb (countOf w) (mostKept strategy n) in
+      leb-true (countOf w) (mostKept strategy n) (and-true three _ (and-true four _ (and-true (four && allFrom (λ x. eqb x 0) 12 4 w) _ e .0) .0) .1)
+
+  pub epoch-in : (strategy : SubsetHandlingStrategy) → EpochOk n w → countOf w ≤ mostKept strategy n → epochInRange strategy n w ≡ true
   unfolding epochInRange limitAt
-  epoch-in h =
+  epoch-in strategy h k =
       and-both _ _ (and-both _ _ (and-both _ _ (and-both _ _ (and-both _ _
       (le-leb (getD w statusAt 0) 2 (omega (arith, h .below 0)))
       (le-leb (getD w decidedAt 0) 1 (omega (arith, h .below 1))))
       (lt-ltb _ _ (h .below 2)))
-      (le-leb (getD w countAt 0) n (omega (arith, h .below 3))))
+      (le-leb (countOf w) (mostKept strategy n) k))
       (all-every (λ x. eqb x 0) 12 4 w (λ k l. eq-eqb _ 0 (zero-at k l))))
       (records-in n n 0 w h)
     where

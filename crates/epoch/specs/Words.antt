@@ -9,6 +9,8 @@ use Rattle.steps.specs.Numbers.{handleLimit}
 use Rattle.decryption.specs.declared.ThresholdDecrypt.{ThresholdDecrypt}
 use Rattle.decryption.specs.Decrypt.{new}
 use Rattle.subset.specs.Words.{statusVacant, statusComplete, statusOf, fieldAt, recordAt, tagCompleteTrue, decidedAt, acceptedAt, acceptedOf, countOf, proposalAt, valueAt, arrivalAt}
+use Rattle.epoch.specs.declared.SubsetHandlingStrategy.{SubsetHandlingStrategy}
+use Rattle.epoch.specs.declared.SubsetHandlingStrategy.the-variants.{Incremental, AllAtEnd}
 
 abbrev pub isVacant : List ℕ → Bool
 isVacant w = eqb (statusOf w) statusVacant
@@ -155,11 +157,16 @@ unfoldable pub recordsInRange : ℕ → ℕ → ℕ → List ℕ → Bool
 recordsInRange n zero p w = true
 recordsInRange n (suc m) p w = recordInRange n w p && recordsInRange n m (p + 1) w
 
-unfoldable pub epochInRange : ℕ → List ℕ → Bool
-epochInRange n w =
+-- how many contributions are kept between calls at most: "AllAtEnd keeps contributions in arrival order until Done", Incremental none
+unfoldable pub mostKept : SubsetHandlingStrategy → ℕ → ℕ
+mostKept Incremental n = 0
+mostKept AllAtEnd n = n
+
+unfoldable pub epochInRange : SubsetHandlingStrategy → ℕ → List ℕ → Bool
+epochInRange strategy n w =
     leb (statusOf w) statusComplete
     && leb (getD w decidedAt 0) 1
     && ltb (acceptedOf w) (2 ^ n)
-    && leb (countOf w) n
+    && leb (countOf w) (mostKept strategy n)
     && allFrom (λ x. eqb x 0) 12 4 w
     && recordsInRange n n 0 w
