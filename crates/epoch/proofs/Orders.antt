@@ -33,7 +33,8 @@ use Rattle.epoch.specs.declared.SubsetHandlingStrategy.the-variants.{All
 use Rattle.epoch.specs.Words.{isVacant, isComplete, isAccepted, accept, missing, ongoing, complete, entryOngoing, decryptionAt, plaintextAt, shareAt, asks, isSettled, decryptionIn, sharesFrom, loadInstance, loadEntry, loadDecryption, storeEntry, storeDecryption}
 use Rattle.epoch.specs.Epoch.{receivedProposals, unexpectedFrom, unexpectedShares, subsetComplete, proposalDropped, entryAfter, processDecryption, callEntry, inputCiphertext, sendDecryptionShare, handleContribution, handleFrom, handleContributions, processSubset, firstContributions, handlesNow, finishAt, finishFrom}
 use Rattle.epoch.specs.Batch.{decryptedFrom, isReadyIn, isReady, isRead, readAt, readFrom}
-use Rattle.epoch.specs.Orders.{receivedBits, isUnexpected, bySender, byProposer, Contribution, arrivals, handleEach}
+use Rattle.subset.specs.Rule.{Contribution, contributionsFrom}
+use Rattle.epoch.specs.Orders.{receivedBits, isUnexpected, bySender, byProposer, handleEach}
 use Rattle.epoch.proofs.RangesWords.{with-below}
 use Rattle.epoch.proofs.Entries.{accept-word, accept-same, entry-tag, store-size, places, store-word, store-subset}
 use Rattle.epoch.proofs.Texts.{after-about}
@@ -160,12 +161,12 @@ module _ (n : ℕ) where
   abbrev Listed : List ℕ → List ℕ → Type 0
   Listed w w′ = (q k : ℕ) → k < 8 → (2 ≤ k → k ≡ 7) → getD w′ (recordAt n q k) 0 ≡ getD w (recordAt n q k) 0
 
-  same-arrivals : (w w′ : List ℕ) → Listed w w′ → (m i : ℕ) → arrivals n m i w′ ≡ arrivals n m i w
-  unfolding arrivals
-  same-arrivals w w′ h zero i = refl
-  same-arrivals w w′ h (suc m) i =
+  same-contributionsFrom : (w w′ : List ℕ) → Listed w w′ → (m i : ℕ) → contributionsFrom n m i w′ ≡ contributionsFrom n m i w
+  unfolding contributionsFrom
+  same-contributionsFrom w w′ h zero i = refl
+  same-contributionsFrom w w′ h (suc m) i =
       let a : getD w′ (arrivalAt n i) 0 ≡ getD w (arrivalAt n i) 0 = h i 7 (omega arith) (λ e. refl) in
-      rw (a, h (getD w (arrivalAt n i) 0) 1 (omega arith) (λ e. omega arith), same-arrivals w w′ h m (i + 1))
+      rw (a, h (getD w (arrivalAt n i) 0) 1 (omega arith) (λ e. omega arith), same-contributionsFrom w w′ h m (i + 1))
 
   -- a contribution that comes joins the list at its end
   module _ (w : List ℕ) (p value c : ℕ) (counted : getD w countAt 0 ≡ c) (room : c < n) (inside : p < n) (size : length w ≡ epochLength n)
@@ -173,8 +174,8 @@ module _ (n : ℕ) where
     abbrev v : List ℕ
     v = addContribution n w p value
 
-    joined : (m i : ℕ) → i + m ≡ c → arrivals n (suc m) i v ≡ arrivals n m i w ++ (record { proposer = p; value = value } ∷ [])
-    unfolding arrivals
+    joined : (m i : ℕ) → i + m ≡ c → contributionsFrom n (suc m) i v ≡ contributionsFrom n m i w ++ (record { proposer = p; value = value } ∷ [])
+    unfolding contributionsFrom
     joined zero i e =
         let z : i ≡ c = omega arith in
         let a : getD v (arrivalAt n i) 0 ≡ p = ap (λ (j : ℕ). getD v (arrivalAt n j) 0) z ∙ add-arrival n w p value c counted room inside size in
@@ -189,7 +190,7 @@ module _ (n : ℕ) where
         (apart n q p 1 1 (omega arith) (omega arith) (new i (omega arith))) (λ e. omega arith) in
         rw (a, b) (ap (λ (l : List Contribution). record { proposer = getD w (arrivalAt n i) 0; value = getD w (valueAt n (getD w (arrivalAt n i) 0)) 0 } ∷ l) (joined m (i + 1) (omega arith)))
 
-    pub arrives-last : arrivals n (c + 1) 0 (addContribution n w p value) ≡ arrivals n c 0 w ++ (record { proposer = p; value = value } ∷ [])
+    pub arrives-last : contributionsFrom n (c + 1) 0 (addContribution n w p value) ≡ contributionsFrom n c 0 w ++ (record { proposer = p; value = value } ∷ [])
     arrives-last = let e : c + 1 ≡ suc c = omega arith in rw e (joined c 0 (omega arith))
 
 module _ (net : NetworkInfo) (p : ℕ) (w : List ℕ) where
@@ -227,8 +228,8 @@ module _ (net : NetworkInfo) (strategy : SubsetHandlingStrategy) (encrypted : Bo
   after-at : {S A : Type 0} (r : Run S A) (Q : A → S → Tape → Type 0) (a : A) → r .verdict ≡ going a → After r Q → Q a (r .state) (r .tape)
   after-at {S = S} {A = A} r Q a e h = subst (λ (v : Verdict A). AfterAs v (r .state) (r .tape) Q) e h
 
-  in-order : (m i : ℕ) (w : List ℕ) (u : Tape) → handleFrom net strategy encrypted m i w u ≡ handleEach net strategy encrypted (arrivals (net .«num_nodes») m i w) w u
-  unfolding handleFrom handleEach arrivals
+  in-order : (m i : ℕ) (w : List ℕ) (u : Tape) → handleFrom net strategy encrypted m i w u ≡ handleEach net strategy encrypted (contributionsFrom (net .«num_nodes») m i w) w u
+  unfolding handleFrom handleEach contributionsFrom
   in-order zero i w u = refl
   in-order (suc m) i w u =
       let p = getD w (arrivalAt (net .«num_nodes») i) 0 in
@@ -237,11 +238,11 @@ module _ (net : NetworkInfo) (strategy : SubsetHandlingStrategy) (encrypted : Bo
       onward-at r _ _ (λ a e.
       in-order m (i + 1) (r .state) (r .tape)
       ∙ ap (λ (l : List Contribution). handleEach net strategy encrypted l (r .state) (r .tape))
-      (same-arrivals (net .«num_nodes») w (r .state) (after-at r (Keeps net p w) a e (handle-listed net p w strategy encrypted value u)) m (i + 1)))
+      (same-contributionsFrom (net .«num_nodes») w (r .state) (after-at r (Keeps net p w) a e (handle-listed net p w strategy encrypted value u)) m (i + 1)))
 
   -- contributions are handled in the order of their arrival, as they were when the first one was
   pub contributions-in-order : (w : List ℕ) (u : Tape)
-      → handleContributions net strategy encrypted w u ≡ inside (firstContributions (net .«num_nodes») 0) (handleEach net strategy encrypted (arrivals (net .«num_nodes») (getD w countAt 0) 0 w) w u)
+      → handleContributions net strategy encrypted w u ≡ inside (firstContributions (net .«num_nodes») 0) (handleEach net strategy encrypted (contributionsFrom (net .«num_nodes») (getD w countAt 0) 0 w) w u)
   unfolding handleContributions
   contributions-in-order w u = ap (inside (firstContributions (net .«num_nodes») 0)) (in-order (getD w countAt 0) 0 w u)
 
@@ -252,7 +253,7 @@ module _ (net : NetworkInfo) (encrypted : Bool) (w : List ℕ) (u : Tape) where
   all-wait = refl
 
   pub all-at-done : processSubset net AllAtEnd encrypted true w u
-      ≡ onward (inside (firstContributions (net .«num_nodes») 0) (handleEach net AllAtEnd encrypted (arrivals (net .«num_nodes») (getD w countAt 0) 0 w) w u))
+      ≡ onward (inside (firstContributions (net .«num_nodes») 0) (handleEach net AllAtEnd encrypted (contributionsFrom (net .«num_nodes») (getD w countAt 0) 0 w) w u))
       (λ _ w q. finishFrom net (net .«num_nodes») 0 (subsetComplete w) q)
   unfolding processSubset handlesNow
   all-at-done = ap (λ (r : Run (List ℕ) (Unit {0})). onward r (λ _ w q. finishFrom net (net .«num_nodes») 0 (subsetComplete w) q)) (contributions-in-order net AllAtEnd encrypted w u)

@@ -17,5 +17,5 @@ unfolding DecryptionOpened.opened SubsetOpened.opened
     Epoch.handleContribution Epoch.handleFrom Epoch.handleContributions Epoch.processSubset Epoch.handedUp
     Epoch.callSubset Epoch.propose Epoch.handleMessageContent
     Batch.decryptedFrom Batch.isReadyIn Batch.isRead Batch.readAt Batch.readFrom Batch.entriesFrom Batch.outputBatchIn
-    Orders.receivedBits Orders.isUnexpected Orders.bySender Orders.byProposer Orders.arrivals Orders.handleEach
+    Orders.receivedBits Orders.isUnexpected Orders.bySender Orders.byProposer Orders.handleEach
 opened = tt

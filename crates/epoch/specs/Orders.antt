@@ -10,7 +10,8 @@ use Rattle.steps.specs.declared.network_info.NetworkInfo.{NetworkInfo}
 use Rattle.steps.specs.Answers.{Tape}
 use Rattle.steps.specs.Steps.{Entry, fault}
 use Rattle.steps.specs.Runs.{going, Run, ends, onward}
-use Rattle.subset.specs.Words.{recordLength, acceptedOf, valueAt, contributor}
+use Rattle.subset.specs.Words.{recordLength, acceptedOf}
+use Rattle.subset.specs.Rule.{Contribution}
 use Rattle.subset.specs.Bits.{receivedTags, proposalsIn}
 use Rattle.epoch.specs.declared.SubsetHandlingStrategy.{SubsetHandlingStrategy}
 use Rattle.epoch.specs.Words.{isVacant, isComplete, isAccepted, entryOngoing, decryptionAt, shareAt}
@@ -38,17 +39,7 @@ unfoldable pub byProposer : ℕ → List ℕ → ℕ → ℕ → List Entry
 byProposer n w zero p = []
 byProposer n w (suc m) p = bySender n w p n 0 ++ byProposer n w m (p + 1)
 
--- "AllAtEnd keeps contributions in arrival order until Done": the next m of the list, from the i-th on
-pub record Contribution : Type 0 where
-  pub proposer : ℕ
-  pub value : ℕ
-
-unfoldable pub arrivals : ℕ → ℕ → ℕ → List ℕ → List Contribution
-arrivals n zero i w = []
-arrivals n (suc m) i w =
-    record { proposer = contributor n w i; value = getD w (valueAt n (contributor n w i)) 0 } ∷ arrivals n m (i + 1) w
-
--- each is handled, in the order of the list
+-- "AllAtEnd keeps contributions in arrival order until Done": each of a list is handled, in its order
 module _ (net : NetworkInfo) (strategy : SubsetHandlingStrategy) (encrypted : Bool) where
   unfoldable pub handleEach : List Contribution → List ℕ → Tape → Run (List ℕ) (Unit {0})
   handleEach [] w tape = ends (going tt) w tape

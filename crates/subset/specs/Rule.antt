@@ -16,7 +16,7 @@ use Rattle.steps.specs.Answers.{Rec, Tape, tapeOf}
 use Rattle.steps.specs.Table.{within, tableOk}
 use Rattle.steps.specs.Taken.{orElse, isThere, isTrue, firstTaken, ofValue, ofDecision, asked, onesFrom}
 use Rattle.steps.specs.Runs.{Verdict, going, refused, failed, Run}
-use Rattle.subset.specs.Words.{newEpoch, decidedAt, countAt, valueAt, arrivalAt}
+use Rattle.subset.specs.Words.{newEpoch, decidedAt, countOf, valueAt, contributor}
 use Rattle.subset.specs.Subset.{propose, handleMessage}
 
 -- all agreements of the next m proposers, from p on, have decided, and every value decided 1 is here
@@ -84,11 +84,11 @@ pub record Contribution : Type 0 where
 unfoldable pub contributionsFrom : ℕ → ℕ → ℕ → List ℕ → List Contribution
 contributionsFrom n zero i w = []
 contributionsFrom n (suc m) i w =
-    record { proposer = getD w (arrivalAt n i) 0; value = getD w (valueAt n (getD w (arrivalAt n i) 0)) 0 }
+    record { proposer = contributor n w i; value = getD w (valueAt n (contributor n w i)) 0 }
     ∷ contributionsFrom n m (i + 1) w
 
 abbrev pub contributions : ℕ → List ℕ → List Contribution
-contributions n w = contributionsFrom n (getD w countAt 0) 0 w
+contributions n w = contributionsFrom n (countOf w) 0 w
 
 -- the decision for p, as far as the answers 5 and 6 of a call bring it: before the round of votes 0
 abbrev pub decidedBefore7 : List SubsetEvent → SubsetEvent → ℕ → Option ℕ
@@ -97,8 +97,8 @@ decidedBefore7 h x p = orElse (takenBy ofDecision h p) (firstTaken (within agree
 -- a call that comes to the subset: a propose of a validator, or a message
 unfoldable pub speaks : NetworkInfo → SubsetCall → Bool
 speaks net proposing = isValidator net
-speaks net (broadcasting proposer) = true
-speaks net (agreeing proposer) = true
+speaks net (broadcasting p) = true
+speaks net (agreeing p) = true
 
 pub record PaperRule (net : NetworkInfo) (h : List SubsetEvent) (x : SubsetEvent) (w : List ℕ) : Type 0 where
   -- "a delivered value earns a vote 1 while its agreement is undecided": then, and only then, vote 1 is asked for
@@ -120,8 +120,7 @@ pub record PaperRule (net : NetworkInfo) (h : List SubsetEvent) (x : SubsetEvent
   pub noOthers : (c : Contribution) → List·Memᴰ c (contributions (net .«num_nodes») w)
       → (c .proposer < net .«num_nodes») × (takenBy ofDecision (h ++ (x ∷ [])) (c .proposer) ≡ some 1) × (takenBy ofValue (h ++ (x ∷ [])) (c .proposer) ≡ some (c .value))
   -- nobody is handed up twice
-  pub handedOnce : (i j : ℕ) → i < getD w countAt 0 → j < getD w countAt 0
-      → getD w (arrivalAt (net .«num_nodes») i) 0 ≡ getD w (arrivalAt (net .«num_nodes») j) 0 → i ≡ j
+  pub handedOnce : (i j : ℕ) → i < countOf w → j < countOf w → contributor (net .«num_nodes») w i ≡ contributor (net .«num_nodes») w j → i ≡ j
 
 abbrev pub SubsetRule : Type 0
 SubsetRule =
