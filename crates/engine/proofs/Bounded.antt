@@ -7,7 +7,7 @@ use native.Mathlib.Omega.{arith}
 use native.Mathlib.Nat.{mul-le-mul-right, mul-le-mul-left}
 use lib.ListN.{length, set, take, length-take, length-append, length-set, List·getD-append}
 use lib.Seq.{getD-take, getD-set-other}
-use lib.Dec.{eqb, leb, ltb}
+use lib.Dec.{eqb, ltb}
 use borrow.Author.Tests.{leb-true}
 use Rattle.steps.specs.declared.reader.Answer.{Answer}
 use Rattle.steps.specs.declared.reader.Answer.the-variants.{Got, Refused}
@@ -175,28 +175,28 @@ module _ (w : List ℕ) (ok : stateOk w ≡ true) where
 
 -- WHAT THE SECOND RUN NEEDS. Such a log is counted exactly, whatever words the first run was given; the test of the count is reply 10's;
 -- and the second run leaves the finished step in every table that has room for it
-pub record Exact (log : List Entry) : Type 0 where
+pub record CountedExactly (log : List Entry) : Type 0 where
   pub few : length log < 0x1_0000_0000
   pub count : (v : List ℕ) → putAll (out counting v) log .step ≡ exactOf log
   pub records : (v : List ℕ) → recordsOf (putAll (out counting v) log .step) ≡ 1 + length log
-  pub test : (v : List ℕ) (room : ℕ) → leb (recordsOf (putAll (out counting v) log .step)) room ≡ leb (1 + length log) room
+  pub test : (v : List ℕ) (room : ℕ) → ltb room (recordsOf (putAll (out counting v) log .step)) ≡ ltb room (1 + length log)
   pub finishes : (v w : List ℕ) (epoch : ℕ) → 1 + length log ≤ length w / 4
       → putHeader (putAll (out (writing (putAll (out counting v) log .step)) w) log .words) (writing (putAll (out counting v) log .step)) epoch ≡ written w log epoch
 
-log-exact : (log : List Entry) → length log ≤ logLimit → Exact log
+log-exact : (log : List Entry) → length log ≤ logLimit → CountedExactly log
 log-exact log h =
     let few : length log < 0x1_0000_0000 = omega arith in
     record {
       few = few;
       count = λ v. counts-exact log v few;
       records = λ v. records-counted log v few;
-      test = λ v room. ap (λ n. leb n room) (records-counted log v few);
+      test = λ v room. ap (λ n. ltb room n) (records-counted log v few);
       finishes = λ v w epoch room. finished log v w epoch few room;
     }
 
 module _ (w : List ℕ) (ok : stateOk w ≡ true) (answers : List ℕ) (good : tableOk (nodes w) answers ≡ true) where
-  pub propose-exact : Exact (propose w (tapeOf answers) .log)
+  pub propose-exact : CountedExactly (propose w (tapeOf answers) .log)
   propose-exact = log-exact _ (propose-log w ok answers good)
 
-  pub message-exact : (sender epoch proposer : ℕ) (content : MessageContent) → Exact (handleMessage sender epoch proposer content w (tapeOf answers) .log)
+  pub message-exact : (sender epoch proposer : ℕ) (content : MessageContent) → CountedExactly (handleMessage sender epoch proposer content w (tapeOf answers) .log)
   message-exact sender epoch proposer content = log-exact _ (message-log w ok answers good sender epoch proposer content)

@@ -35,3 +35,4 @@ pub mod Pair
 pub mod Worked
 pub mod SecondPair
 pub mod Bounded
+pub mod Received
