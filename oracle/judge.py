@@ -156,8 +156,9 @@ def make_repository(folder):
             target.write_text(types_only(file.read_text()))
         steps_lib = made / "src" / "lib.rt"
         if layer == "steps":  # a module without types has nothing to declare
-            (made / "src" / "answers.rt").unlink(missing_ok=True)
-            steps_lib.write_text("".join(line for line in steps_lib.read_text().splitlines(True) if "answers" not in line))
+            for name in ("answers", "numbers"):
+                (made / "src" / f"{name}.rt").unlink(missing_ok=True)
+                steps_lib.write_text("".join(line for line in steps_lib.read_text().splitlines(True) if line != f"pub mod {name};\n"))
     judged = folder / "crates" / "judged"
     (judged / "src").mkdir(parents=True)
     (judged / "src" / "lib.rt").write_text("// Nothing: the definitions are in specs/.\n")

@@ -12,7 +12,8 @@ use borrow.Author.Tests.{eqb-true}
 use Rattle.steps.specs.Answers.{Rec}
 use Rattle.steps.specs.Taken.{orElse, isTrue, concernedAfter, concerns, firstDecrypted}
 use Rattle.steps.proofs.Laws.{and-true}
-use Rattle.engine.specs.History.{Entry, Batch, Event, plaintext, decisionTaken, valueTaken, decrypted, Handed, handed, unreadableIn, unreadable, Reading, readingOf, valueOf, readingsAt, readingsIn, readingsOf13, readingsOfBatches, readingsOfCalls, readings}
+use Rattle.steps.specs.Batches.{BatchEntry, Batch}
+use Rattle.engine.specs.History.{Event, plaintext, decisionTaken, valueTaken, decrypted, Handed, handed, unreadableIn, unreadable, Reading, readingOf, valueOf, readingsAt, readingsIn, readingsOf13, readingsOfBatches, readingsOfCalls, readings}
 use Rattle.engine.specs.Claim.{Premises}
 use Rattle.engine.proofs.OneBatch.{namesOf, entriesOf}
 use Rattle.engine.proofs.Handout.{InAll, there, is-true, names-same, of-names}
@@ -126,7 +127,7 @@ same-batch : (x y : Batch) → x .epoch ≡ y .epoch → x .count ≡ y .count �
 same-batch x y e c k =
     ap (λ (z : ℕ). record { epoch = z; count = x .count; entries = x .entries }) e
     ∙ (ap (λ (z : ℕ). record { epoch = y .epoch; count = z; entries = x .entries }) c
-    ∙ ap (λ (z : List Entry). record { epoch = y .epoch; count = y .count; entries = z }) k)
+    ∙ ap (λ (z : List BatchEntry). record { epoch = y .epoch; count = y .count; entries = z }) k)
 
 -- TWO BATCHES OF ONE EPOCH
 module _ (n f : ℕ) (encrypted : ℕ → Bool) (h₁ h₂ : List Event) (same : Premises n encrypted h₁ h₂) (x y : Handed)

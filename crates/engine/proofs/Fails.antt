@@ -6,6 +6,7 @@ use mathlib.Core.Bool.{Bool, true, false, cond, _&&_, not}
 use mathlib.Core.Option.{Option}
 use lib.Dec.{eqb, leb, ltb}
 use lib.ListN.{getD}
+use Rattle.steps.specs.declared.reader.Content.{Content}
 use Rattle.steps.specs.declared.network_info.NetworkInfo.{NetworkInfo}
 use Rattle.steps.specs.declared.reader.Answer.{Answer}
 use Rattle.steps.specs.declared.reader.Answer.the-variants.{Got, Refused}
@@ -136,14 +137,14 @@ only-ciphertext ok ok-25 p c td t =
 -- THE SUBSET fails with the number that its caller gives
 module _ (ok : ℕ → Bool) (error : ℕ) (ok-error : ok error ≡ true) where
   module _ (proposer : ℕ) where
-    only-answer : (kind content : ℕ) (s : ProposalState) (p : Tape) → Only ok (instanceAnswer error proposer kind content s p)
+    only-answer : (kind : ℕ) (content : Content) (s : ProposalState) (p : Tape) → Only ok (instanceAnswer error proposer kind content s p)
     unfolding instanceAnswer
     only-answer kind content s p = only-heard _ _ (λ a b q. only-cond (eqb a 0) (record { fails = ok-error }) (record { fails = tt }))
 
     only-agreement : (kind : ℕ) (s : ProposalState) (p : Tape) → Only ok (handleAgreement error proposer kind s p)
     unfolding handleAgreement
     only-agreement kind s p =
-        only-cond (asksAgreement s) (only-onward _ (only-answer kind 2 s p) (λ out s q. record { fails = tt })) (record { fails = tt })
+        only-cond (asksAgreement s) (only-onward _ (only-answer kind _ s p) (λ out s q. record { fails = tt })) (record { fails = tt })
 
     only-vote-true : (m : Moved) (p : Tape) → Only ok (voteTrue error proposer m p)
     unfolding voteTrue
@@ -157,7 +158,7 @@ module _ (ok : ℕ → Bool) (error : ℕ) (ok-error : ok error ≡ true) where
     only-broadcast : (kind : ℕ) (s : ProposalState) (p : Tape) → Only ok (handleBroadcast error proposer kind s p)
     unfolding handleBroadcast
     only-broadcast kind s p =
-        only-cond (asksBroadcast s) (only-onward _ (only-answer kind 1 s p) (λ out s q. only-value s out q)) (record { fails = tt })
+        only-cond (asksBroadcast s) (only-onward _ (only-answer kind _ s p) (λ out s q. only-value s out q)) (record { fails = tt })
 
   module _ (net : NetworkInfo) where
     only-at : (p : ℕ) (w : List ℕ) (r : Run ProposalState (Option ℕ)) → Only ok r → Only ok (atProposal net error p w r)

@@ -13,7 +13,8 @@ use borrow.Author.Tests.{eqb-true, eqb-false}
 use Rattle.steps.specs.Answers.{Rec}
 use Rattle.steps.specs.Taken.{isThere, isTrue, onesFrom, thirteensIn}
 use Rattle.subset.proofs.Taken.{Grown}
-use Rattle.engine.specs.History.{Batch, Event, plaintext, decisionTaken, valueTaken, decrypted, countOpen, Handed, wantedIn, dealt, handedIn, handedOf, unreadableIn, proposersIn, unreadableOf}
+use Rattle.steps.specs.Batches.{Batch}
+use Rattle.engine.specs.History.{Event, plaintext, decisionTaken, valueTaken, decrypted, countOpen, Handed, wantedIn, dealt, handedIn, handedOf, unreadableIn, proposersIn, unreadableOf}
 use Rattle.engine.specs.Claim.{DecidedTrue, Exact}
 use Rattle.engine.proofs.OneBatch.{namesFrom, namesOf, entriesOf}
 

@@ -16,7 +16,8 @@ use Rattle.steps.proofs.Read13.{Gives, gives-map, gives-cond, gives-about, give
 use Rattle.epoch.specs.Words.{hasBit, withBit, countBits, isAccepted, plaintextAt}
 use Rattle.epoch.specs.Batch.{readAt, readFrom, entriesFrom, outputBatch}
 use Rattle.epoch.proofs.Told.{fivesAmong}
-use Rattle.engine.specs.History.{Entry as Shown, unreadableIn}
+use Rattle.steps.specs.Batches.{BatchEntry as Shown}
+use Rattle.engine.specs.History.{unreadableIn}
 
 -- BITS: of a number below 2 ^ p
 module _ (x p : ℕ) (small : x < 2 ^ p) where

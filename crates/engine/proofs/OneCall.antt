@@ -30,7 +30,8 @@ use Rattle.epoch.proofs.Told.{nothing, fivesAmong, Quiet, shareOf, Told, Ready,
 use Rattle.epoch.proofs.Batches.{Alive, alive-new, alive-propose, alive-message}
 use Rattle.engine.specs.State.{nodes, ahead, currentEpoch, faultyAt, inputAt, netOf, strategyOf, encryptedIn, epochWords, withEpoch}
 use Rattle.engine.specs.HoneyBadger.{updateEpoch, epochStateMut, inEpoch, tryOutputBatches, outputBatches, propose, handleMessage}
-use Rattle.engine.specs.History.{Batch, unreadableIn}
+use Rattle.steps.specs.Batches.{Batch}
+use Rattle.engine.specs.History.{unreadableIn}
 use Rattle.engine.proofs.Window.{words-long, with-same}
 use Rattle.engine.proofs.OneBatch.{entriesOf, itemsOf, textIn, fives-append, Put, batch-put}
 use Rattle.engine.proofs.Shown.{entriesAmong, batchesAmong, batch-first}

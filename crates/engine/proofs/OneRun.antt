@@ -27,7 +27,8 @@ use Rattle.engine.specs.State.{nodes, ahead, currentEpoch, faultyAt, fau
 use Rattle.engine.specs.HoneyBadger.{skipToEpoch, propose, handleMessage}
 use Rattle.engine.specs.Calls.{countFaults, proposeCall, contentOk, contentOf, messageCall, skipReply, skipState}
 use Rattle.engine.specs.Laws.{Skipped}
-use Rattle.engine.specs.History.{Call, turnOf, stateAfter, turns, noneFails, Batch, batchesOf, fivesOf, Event, event, eventsOf, currentAfter, history, taken, decrypted}
+use Rattle.steps.specs.Batches.{Batch, batchesOf, fivesOf}
+use Rattle.engine.specs.History.{Call, turnOf, stateAfter, turns, noneFails, Event, event, eventsOf, currentAfter, history, taken, decrypted}
 use Rattle.engine.specs.History.{propose as proposing, message as messaging, skip as skipping}
 use Rattle.engine.specs.Rule.{stateAfterAll}
 use Rattle.engine.proofs.Skips.{skip-stays, skip-moves, skip-state}

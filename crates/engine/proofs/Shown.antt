@@ -9,10 +9,10 @@ use Rattle.steps.specs.Answers.{Rec, chain}
 use Rattle.steps.specs.Steps.{Entry, Item, item, faults, outputs, written}
 use Rattle.steps.proofs.ReadBack.{itemOf, written-read}
 use Rattle.epoch.proofs.Told.{fivesAmong}
-use Rattle.engine.specs.History.{Entry as Shown, Batch, entriesIn, batchesIn, fivesIn, batchesOf, fivesOf}
+use Rattle.steps.specs.Batches.{BatchEntry as Shown, Batch, entriesIn, batchesIn, fivesIn, batchesOf, fivesOf}
 use Rattle.engine.proofs.OneBatch.{itemsOf}
 
--- as History.antt has them of records
+-- as Batches.antt has them of records
 unfoldable pub entriesAmong : List Item → List Shown
 entriesAmong [] = []
 entriesAmong (x ∷ xs) = cond (eqb (x .kind) 2) (record { proposer = x .a; plaintext = x .b } ∷ entriesAmong xs) []

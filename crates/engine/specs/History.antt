@@ -3,10 +3,11 @@ use Prim.Native.Nat.{ℕ, zero, suc, _+_, max}
 use mathlib.Core.List.{List, [], _∷_, _++_}
 use mathlib.Core.Bool.{Bool, true, false, cond, _&&_, _||_}
 use mathlib.Core.Option.{Option, none, some}
-use lib.ListN.{length, getD, take, drop}
+use lib.ListN.{length, take, drop}
 use lib.Dec.{eqb, leb, ltb}
 use Rattle.steps.specs.Table.{within}
-use Rattle.steps.specs.Answers.{Rec, chain, tapeOf}
+use Rattle.steps.specs.Answers.{Rec, tapeOf}
+use Rattle.steps.specs.Batches.{BatchEntry, Batch, batchesOf, fivesOf}
 use Rattle.steps.specs.Taken.{orElse, isThere, isTrue, firstTaken, ofValue, ofDecision, concernedAfter, firstDecrypted, thirteensIn}
 use Rattle.engine.specs.Calls.{proposeCall, messageCall, skipReply, skipState}
 
@@ -52,38 +53,6 @@ turns w (c ∷ cs) = turnOf w c ∷ turns (stateAfter w c) cs
 unfoldable pub noneFails : List Turn → Bool
 noneFails [] = true
 noneFails (t ∷ ts) = ltb (t .reply) 20 && noneFails ts
-
--- WHAT A STEP HOLDS. A batch record's a and b, and its entries by proposer and plaintext, nexts left out
-pub record Entry : Type 0 where
-  pub proposer : ℕ
-  pub plaintext : ℕ
-
-pub record Batch : Type 0 where
-  pub epoch : ℕ
-  pub count : ℕ
-  pub entries : List Entry
-
--- the records 2 up to the next batch
-unfoldable pub entriesIn : List Rec → List Entry
-entriesIn [] = []
-entriesIn (r ∷ rs) = cond (eqb (r .kind) 2) (record { proposer = r .a; plaintext = r .b } ∷ entriesIn rs) []
-
-unfoldable pub batchesIn : List Rec → List Batch
-batchesIn [] = []
-batchesIn (r ∷ rs) =
-    cond (eqb (r .kind) 1) (record { epoch = r .a; count = r .b; entries = entriesIn rs } ∷ []) [] ++ batchesIn rs
-
--- the nodes of faults 5
-unfoldable pub fivesIn : List Rec → List ℕ
-fivesIn [] = []
-fivesIn (r ∷ rs) = cond (eqb (r .kind) 5) (r .a ∷ []) [] ++ fivesIn rs
-
--- the header holds the first output at word 2, the first fault at word 1
-abbrev pub batchesOf : List ℕ → List Batch
-batchesOf step = batchesIn (chain step (getD step 2 0))
-
-abbrev pub fivesOf : List ℕ → List ℕ
-fivesOf step = fivesIn (chain step (getD step 1 0))
 
 -- THE HISTORY: "What follows counts calls with reply 0 only, each with its whole chain of answers."
 pub record Event : Type 0 where
@@ -177,7 +146,7 @@ unreadableIn (r ∷ rs) = cond (eqb (r .a) 0) (r .b ∷ []) [] ++ unreadableIn r
 abbrev pub unreadable : Handed → List ℕ
 unreadable x = unreadableIn (x .thirteens)
 
-unfoldable pub proposersIn : List Entry → List ℕ
+unfoldable pub proposersIn : List BatchEntry → List ℕ
 proposersIn [] = []
 proposersIn (x ∷ xs) = x .proposer ∷ proposersIn xs
 

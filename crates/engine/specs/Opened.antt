@@ -19,7 +19,7 @@ unfolding EpochOpened.opened
     Calls.messageCall Calls.skipReply Calls.skipState Calls.queryReply Calls.currentEpochResult Calls.hasInputResult
     Calls.receivedProposalsResult Calls.faultCountResult
     Create.numbersOk Create.created Create.createReply Create.createState
-    History.turnOf History.stateAfter History.turns History.noneFails History.entriesIn History.batchesIn History.fivesIn
+    History.turnOf History.stateAfter History.turns History.noneFails
     History.eventsOf History.currentAfter History.history History.taken History.decrypted History.plaintext
     History.countOpen History.wantedIn History.dealt History.handedOf History.unreadableIn History.proposersIn
     History.unreadableOf History.readingOf History.valueOf History.readingsAt History.readingsIn History.readingsOf13

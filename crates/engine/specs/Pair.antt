@@ -6,7 +6,8 @@ use mathlib.Core.List.{List, [], _∷_, _++_}
 use mathlib.Core.Option.{Option, some}
 use lib.ListN.{length, replicate}
 use Rattle.steps.specs.Steps.{Item, item, firstAt, chainWords}
-use Rattle.engine.specs.History.{Call, propose, message, skip, Turn, Event, Entry, Batch, Handed, handed, unreadable, valueTaken, decisionTaken, readings}
+use Rattle.steps.specs.Batches.{BatchEntry, Batch}
+use Rattle.engine.specs.History.{Call, propose, message, skip, Turn, Event, Handed, handed, unreadable, valueTaken, decisionTaken, readings}
 use Rattle.engine.specs.Claim.{Made, turnsOf, historyOf, encryptedOf}
 use Rattle.engine.specs.Opened.{opened}
 
@@ -186,7 +187,7 @@ unfoldable pub seenIn : List Handed → List Seen
 seenIn [] = []
 seenIn (x ∷ xs) = seen x ∷ seenIn xs
 
-abbrev entry : ℕ → ℕ → Entry
+abbrev entry : ℕ → ℕ → BatchEntry
 entry p plaintext = record { proposer = p; plaintext = plaintext }
 
 -- epoch 0: one entry, and proposer 1 is unreadable; epoch 1: two entries

@@ -6,6 +6,8 @@ use mathlib.Core.Bool.{Bool, true, false, cond}
 use native.Mathlib.Omega.{arith}
 use lib.Dec.{eqb}
 use borrow.Author.Tests.{ne-eqb}
+use Rattle.steps.specs.declared.reader.Content.{Content}
+use Rattle.steps.specs.declared.reader.Content.the-variants.{Broadcast, Agreement}
 use Rattle.steps.specs.declared.reader.Answer.{Answer}
 use Rattle.steps.specs.declared.reader.Answer.the-variants.{Got, Refused}
 use Rattle.steps.specs.declared.reader.Output.{Output}
@@ -13,7 +15,7 @@ use Rattle.steps.specs.declared.reader.Output.the-variants.{Missing}
 use Rattle.steps.specs.Answers.{Rec, Tape, Asked, ask, askAbout}
 use Rattle.steps.specs.Steps.{Entry, message, fault, output, Item, item, faults, outputs}
 use Rattle.steps.specs.Runs.{Verdict, going, refused, failed, Run, ends, before, onwardAs, onward, heardAs, heard, inside}
-use Rattle.steps.specs.Parts.{isPart, partEntries, lastOutput, partsFrom, readParts}
+use Rattle.steps.specs.Parts.{isPart, messageKind, faultKind, partEntries, lastOutput, partsFrom, readParts}
 use Rattle.steps.proofs.Parts.{parts-on, parts-off}
 use Rattle.steps.proofs.Past.{OfKinds, Past, past-same, past-then, past-ask, past-about, past-parts}
 use Rattle.epoch.proofs.Told.{fivesAmong, Quiet}
@@ -56,16 +58,20 @@ pub quiet-fault : (k x y : ℕ) → eqb k 5 ≡ false → Quiet (fault k x y ∷
 unfolding outputs faults fivesAmong
 quiet-fault k x y e = record { noOutputs = refl; noFives = rw e }
 
-quiet-part : (content proposer kind a b : ℕ) → Quiet (partEntries content proposer kind a b)
+quiet-part : (content : Content) (proposer kind a b : ℕ) → Quiet (partEntries content proposer kind a b)
 unfolding partEntries
 quiet-part content proposer kind a b = go (eqb kind 16) (eqb kind 17)
   where
-    go : (x y : Bool) → Quiet (cond x (message content proposer b ∷ []) (cond y (fault (content + 7) a b ∷ []) []))
-    go true y = quiet-message content proposer b
-    go false true = quiet-fault (content + 7) a b (ne-eqb (content + 7) 5 (λ e. omega arith))
+    other : (x : Content) → eqb (faultKind x) 5 ≡ false
+    other Broadcast = refl
+    other Agreement = refl
+
+    go : (x y : Bool) → Quiet (cond x (message (messageKind content) proposer b ∷ []) (cond y (fault (faultKind content) a b ∷ []) []))
+    go true y = quiet-message (messageKind content) proposer b
+    go false true = quiet-fault (faultKind content) a b (other content)
     go false false = quiet-none
 
-quiet-parts : (content proposer : ℕ) (o : Output) (i : ℕ) (l : List Rec) → Quiet (partsFrom content proposer o i l .log)
+quiet-parts : (content : Content) (proposer : ℕ) (o : Output) (i : ℕ) (l : List Rec) → Quiet (partsFrom content proposer o i l .log)
 unfolding partsFrom
 quiet-parts content proposer o i [] = quiet-none
 quiet-parts content proposer o i (r ∷ rs) = go (isPart (r .kind)) refl (quiet-parts content proposer (lastOutput o (r .kind) (r .b)) (r .next) rs)
@@ -143,7 +149,7 @@ pub orderly-inside : {S T A : Type 0} {P : S → Type 0} {R : T → Type 0} {is 
     → ((t : T) → R t → P (put t)) → Orderly R is p r → Orderly P is p (inside put r)
 orderly-inside put r f k = record { state = f _ (k .state); past = k .past; quiet = k .quiet }
 
-pub orderly-parts : {S : Type 0} {P : S → Type 0} (is : ℕ → Bool) → ((k : ℕ) → isPart k ≡ true → is k ≡ true) → (content proposer : ℕ) (s : S) (p : Tape) → P s
+pub orderly-parts : {S : Type 0} {P : S → Type 0} (is : ℕ → Bool) → ((k : ℕ) → isPart k ≡ true → is k ≡ true) → (content : Content) (proposer : ℕ) (s : S) (p : Tape) → P s
     → Orderly P is p (readParts content proposer s p)
 orderly-parts is f content proposer s p h = record {
   state = h;

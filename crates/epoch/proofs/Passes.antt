@@ -9,6 +9,7 @@ use lib.ListN.{getD, set}
 use lib.Seq.{getD-set-other}
 use lib.Dec.{leb, ltb, eqb}
 use borrow.Author.Tests.{leb-true, ne-eqb, lt-leb}
+use Rattle.steps.specs.declared.reader.Content.{Content}
 use Rattle.steps.specs.declared.network_info.NetworkInfo.{NetworkInfo}
 use Rattle.steps.specs.declared.reader.Output.{Output}
 use Rattle.steps.specs.declared.reader.Output.the-variants.{Missing, Value}
@@ -147,7 +148,7 @@ parts-kinds : (k : ℕ) → isPart k ≡ true → subsetKinds k ≡ true
 parts-kinds k e = or-part (within 3 7 k) (isPart k) e
 
 module _ (error proposer : ℕ) where
-  answer-runs : (kind content : ℕ) → subsetKinds kind ≡ true → (s : ProposalState) (p : Tape) → Orderly Any subsetKinds p (instanceAnswer error proposer kind content s p)
+  answer-runs : (kind : ℕ) (content : Content) → subsetKinds kind ≡ true → (s : ProposalState) (p : Tape) → Orderly Any subsetKinds p (instanceAnswer error proposer kind content s p)
   unfolding instanceAnswer
   answer-runs kind content e s p =
       orderly-about p kind proposer s _ e tt (λ a b q. orderly-cond (eqb a 0) _ _ (orderly-ends tt) (orderly-parts subsetKinds parts-kinds content proposer s q tt))
@@ -155,7 +156,7 @@ module _ (error proposer : ℕ) where
   agreement-runs : (kind : ℕ) → subsetKinds kind ≡ true → (s : ProposalState) (p : Tape) → Orderly Any subsetKinds p (handleAgreement error proposer kind s p)
   unfolding handleAgreement
   agreement-runs kind e s p =
-      orderly-cond (asksAgreement s) _ _ (orderly-onward _ _ (answer-runs kind 2 e s p) (λ out s q _. orderly-ends tt)) (orderly-ends tt)
+      orderly-cond (asksAgreement s) _ _ (orderly-onward _ _ (answer-runs kind _ e s p) (λ out s q _. orderly-ends tt)) (orderly-ends tt)
 
   value-runs : (s : ProposalState) (out : Output) (p : Tape) → Orderly Any subsetKinds p (afterValue error proposer s out p)
   unfolding afterValue voteTrue
@@ -166,7 +167,7 @@ module _ (error proposer : ℕ) where
   broadcast-runs : (kind : ℕ) → subsetKinds kind ≡ true → (s : ProposalState) (p : Tape) → Orderly Any subsetKinds p (handleBroadcast error proposer kind s p)
   unfolding handleBroadcast
   broadcast-runs kind e s p =
-      orderly-cond (asksBroadcast s) _ _ (orderly-onward _ _ (answer-runs kind 1 e s p) (λ out s q _. value-runs s out q)) (orderly-ends tt)
+      orderly-cond (asksBroadcast s) _ _ (orderly-onward _ _ (answer-runs kind _ e s p) (λ out s q _. value-runs s out q)) (orderly-ends tt)
 
 module _ (net : NetworkInfo) (error : ℕ) (w₀ : List ℕ) where
   abbrev F : List ℕ → Type 0

@@ -1,7 +1,6 @@
 -- What is taken from the first answer of a chain and its parts, and what reply 5's rule says of them. Assumes nothing.
-use Prim.Native.Nat.{ℕ, zero, suc, _*_, _/_, _≤_, _<_}
-use mathlib.Core.Path.{_≡_, refl, sym, _∙_}
-use mathlib.Core.Logic.{_⊎_, inl, inr}
+use Prim.Native.Nat.{ℕ, zero, suc, _*_, _≤_, _<_}
+use mathlib.Core.Path.{_≡_, refl, sym}
 use mathlib.Core.List.{List, [], _∷_}
 use mathlib.Core.Bool.{Bool, true, false, cond, _&&_, _||_, false≢true}
 use mathlib.Core.Option.{Option, none, some}
@@ -9,14 +8,15 @@ use native.Mathlib.Omega.{arith}
 use lib.ListN.{length, getD}
 use lib.Dec.{eqb, leb, ltb}
 use borrow.Author.Tests.{eqb-true, eqb-false, eq-eqb, leb-true, ltb-true, lt-leb}
+use Rattle.steps.specs.declared.reader.Content.{Content}
 use Rattle.steps.specs.declared.reader.Output.{Output}
 use Rattle.steps.specs.declared.reader.Output.the-variants.{Missing, Value}
-use Rattle.steps.specs.Answers.{Rec, tape, link, recAt, chain, tapeOf}
-use Rattle.steps.specs.Table.{within, handle, recordOk, contextAfter, word, mayFollow, chainOk, shapeOk, tableOk}
+use Rattle.steps.specs.Answers.{Rec, tape, recAt, chain, tapeOf}
+use Rattle.steps.specs.Table.{within, handle, recordOk, contextAfter, word, linkOk, mayFollow, chainOk, shapeOk, tableOk}
 use Rattle.steps.specs.Parts.{isPart, outputOf, lastOf, lastOutput, partsFrom}
 use Rattle.steps.specs.Taken.{orElse, lastOutputIn, firstTaken, asked}
-use Rattle.steps.proofs.Laws.{and-true, on-record, off-at-zero, link-up, link-end, chain-on, chain-off}
-use Rattle.steps.proofs.Chain.{follow-facts}
+use Rattle.steps.proofs.Laws.{and-true, on-record, off-at-zero, chain-off}
+use Rattle.steps.proofs.Chain.{follow-link, follow-rule, follow-facts, chain-next}
 use Rattle.steps.proofs.Parts.{parts-on, parts-off}
 
 -- FIRST OF TWO
@@ -39,21 +39,17 @@ pub record Good (n : ℕ) (rs : List Rec) : Type 0 where
   pub context : ℕ
   pub good : GoodFrom n context rs
 
--- a chain that is accepted ends here, or goes on above the record before
-follows : (m n : ℕ) (t : List ℕ) (own i context : ℕ) → chainOk m n t own i context ≡ true → (i ≡ 0) ⊎ (own < i)
-unfolding chainOk
-follows zero n t own i context e = inl (eqb-true i 0 e)
+-- a chain that is accepted ends here, or goes on by the rule for a next
+follows : (m n : ℕ) (t : List ℕ) (own i context : ℕ) → chainOk m n t own i context ≡ true → linkOk t own i ≡ true
+unfolding chainOk linkOk
+follows zero n t own i context e = rw e
 follows (suc m) n t own i context e = go (eqb i 0) (mayFollow n t own i context) refl refl e
   where
     go : (x y : Bool) → eqb i 0 ≡ x → mayFollow n t own i context ≡ y → cond x true (cond y (chainOk m n t i (getD t (i * 4) 0) (contextAfter context (word t i 1) (word t i 2))) false) ≡ true
-        → (i ≡ 0) ⊎ (own < i)
-    go true y z f e = inl (eqb-true i 0 z)
-    go false true z f e = inr (follow-facts n t own i context f .0)
+        → linkOk t own i ≡ true
+    go true y z f e = rw z
+    go false true z f e = follow-link n t own i context f
     go false false z f e = absurd (false≢true e)
-
-follow-rule : (n : ℕ) (t : List ℕ) (own i context : ℕ) → mayFollow n t own i context ≡ true → recordOk n context (word t i 1) (word t i 2) (word t i 3) ≡ true
-unfolding mayFollow
-follow-rule n t own i context e = and-true (ltb own i && ltb i (length t / 4)) (recordOk n context (word t i 1) (word t i 2) (word t i 3)) e .1
 
 chain-good : (m n : ℕ) (t : List ℕ) (own i context : ℕ) → chainOk m n t own i context ≡ true → GoodFrom n context (chain t i)
 unfolding chainOk GoodFrom recAt
@@ -66,18 +62,13 @@ chain-good (suc m) n t own i context e = go (eqb i 0) (mayFollow n t own i conte
     after : ℕ
     after = contextAfter context (word t i 1) (word t i 2)
 
-    linked : (i ≡ 0 → ⊥) → (next ≡ 0) ⊎ (i < next) → link t i ≡ next
-    linked p (inl z) = link-end t i (omega arith) ∙ sym z
-    linked p (inr u) = link-up t i u
-
     go : (x y : Bool) → eqb i 0 ≡ x → mayFollow n t own i context ≡ y → cond x true (cond y (chainOk m n t i next after) false) ≡ true
         → (chainOk m n t i next after ≡ true → GoodFrom n after (chain t next)) → GoodFrom n context (chain t i)
     go true y z f e ih = rw (eqb-true i 0 z, chain-off t 0 (off-at-zero t)) tt
     go false true z f e ih =
         let p : i ≡ 0 → ⊥ = eqb-false i 0 z in
-        let b = follow-facts n t own i context f in
-        let l : link t i ≡ next = linked p (follows m n t i next after e) in
-        rw (chain-on t i (on-record t i (omega arith) (b .1)), l) (follow-rule n t own i context f, ih e)
+        let b = follow-facts n t own i context f p in
+        rw (chain-next t i (follows m n t i next after e) (on-record t i (omega arith) (b .1))) (follow-rule n t own i context f, ih e)
     go false false z f e ih = absurd (false≢true e)
 
 pub table-good : (n : ℕ) (t : List ℕ) → tableOk n t ≡ true → Good n (tapeOf t .rest)
@@ -105,7 +96,7 @@ last-output output kind b = go (eqb kind 18)
     go true = refl
     go false = refl
 
-module _ (content proposer : ℕ) where
+module _ (content : Content) (proposer : ℕ) where
   pub parts-output : (output : Output) (i : ℕ) (rs : List Rec) → optionOf (partsFrom content proposer output i rs .output) ≡ orElse (lastOutputIn rs) (optionOf output)
   unfolding partsFrom lastOutputIn orElse
   parts-output output i [] = refl

@@ -9,7 +9,7 @@ use lib.Seq.{sets, length-sets, sets-eq, set-comm}
 use borrow.Author.Tests.{eq-eqb, ne-eqb, lt-leb, lt-ltb}
 use Rattle.steps.specs.declared.step.Chain.{Chain}
 use Rattle.steps.specs.declared.step.Step.{Step}
-use Rattle.steps.specs.Steps.{Entry, message, fault, output, Item, messages, faults, outputs, chained, linkAfter, chainWords, firstAt, laidOut, stepWords, written, writtenFailed, out, nextOf, advance, putAt, putAll, counting, starting, records, firstOf, putHeader}
+use Rattle.steps.specs.Steps.{Entry, message, fault, output, Item, messages, faults, outputs, chained, linkAfter, chainWords, firstAt, laidOut, stepWords, written, writtenFailed, out, nextOf, advance, putAt, putAll, counting, writing, records, firstOf, putHeader}
 use Rattle.steps.proofs.Laws.{message-put, fault-put, output-put}
 use Rattle.steps.proofs.Counting.{exactOf, counts-exact, records-few, records-counted, lists-length}
 
@@ -119,7 +119,7 @@ step-length l epoch = omega (arith, laid-length (messages l) (faults l) (outputs
 
 -- the records from index 1 on are one run of stores
 lists-words : (l : List Entry) (w : List ℕ) → length l < 4294967296 → 1 + length l ≤ length w / 4
-    → putAll (out (starting (exactOf l)) w) l .words
+    → putAll (out (writing (exactOf l)) w) l .words
     ≡ sets w 4 (chainWords 1 (messages l) ++ (chainWords (1 + length (messages l)) (faults l) ++ chainWords (1 + length (messages l) + length (faults l)) (outputs l)))
 lists-words l w h g =
     let n = lists-length l in
@@ -141,23 +141,23 @@ header-first w vs s epoch h =
 
 -- what a second run writes
 pub finished-exact : (l : List Entry) (w : List ℕ) (epoch : ℕ) → length l < 4294967296 → 1 + length l ≤ length w / 4
-    → putHeader (putAll (out (starting (exactOf l)) w) l .words) (starting (exactOf l)) epoch ≡ written w l epoch
+    → putHeader (putAll (out (writing (exactOf l)) w) l .words) (writing (exactOf l)) epoch ≡ written w l epoch
 unfolding laidOut
 finished-exact l w epoch h g =
     let vs = chainWords 1 (messages l) ++ (chainWords (1 + length (messages l)) (faults l) ++ chainWords (1 + length (messages l) + length (faults l)) (outputs l)) in
     let n : 4 + length vs ≡ length (stepWords l epoch) = omega arith in
-    ap (λ v. putHeader v (starting (exactOf l)) epoch) (lists-words l w h g)
-    ∙ header-first w vs (starting (exactOf l)) epoch (omega (arith, step-length l epoch))
+    ap (λ v. putHeader v (writing (exactOf l)) epoch) (lists-words l w h g)
+    ∙ header-first w vs (writing (exactOf l)) epoch (omega (arith, step-length l epoch))
     ∙ rw (first-at 1 (messages l), first-at (1 + length (messages l)) (faults l), first-at (1 + length (messages l) + length (faults l)) (outputs l), n)
 
 -- THE LAYOUT: the second run, begun where the first run over any words v counted, leaves the finished step
 pub finished : (l : List Entry) (v w : List ℕ) (epoch : ℕ) → length l < 4294967296 → 1 + length l ≤ length w / 4
-    → putHeader (putAll (out (starting (putAll (out counting v) l .step)) w) l .words) (starting (putAll (out counting v) l .step)) epoch ≡ written w l epoch
+    → putHeader (putAll (out (writing (putAll (out counting v) l .step)) w) l .words) (writing (putAll (out counting v) l .step)) epoch ≡ written w l epoch
 finished l v w epoch h g = rw (counts-exact l v h) (finished-exact l w epoch h g)
 
 -- the same from a test of the count, where the table is of at most 2^32 records
 pub finished-fits : (l : List Entry) (v w : List ℕ) (epoch : ℕ) → records (putAll (out counting v) l .step) ≤ length w / 4 → length w / 4 ≤ 4294967296
-    → putHeader (putAll (out (starting (putAll (out counting v) l .step)) w) l .words) (starting (putAll (out counting v) l .step)) epoch ≡ written w l epoch
+    → putHeader (putAll (out (writing (putAll (out counting v) l .step)) w) l .words) (writing (putAll (out counting v) l .step)) epoch ≡ written w l epoch
 finished-fits l v w epoch h g =
     let few : length l < 4294967296 = records-few l v (omega arith) in
     finished l v w epoch few (omega (arith, records-counted l v few))

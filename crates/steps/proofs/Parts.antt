@@ -1,16 +1,17 @@
 -- Laws of the parts of an answer. Assumes nothing.
-use Prim.Native.Nat.{ℕ, _+_}
+use Prim.Native.Nat.{ℕ}
 use mathlib.Core.Path.{_≡_, sym, ap, _∙_}
 use mathlib.Core.List.{List, [], _∷_, _++_}
 use mathlib.Core.Bool.{true, false}
 use borrow.Author.Tests.{eq-eqb, ne-eqb}
 use Rattle.steps.specs.declared.reader.Found.the-variants.{Record, End}
+use Rattle.steps.specs.declared.reader.Content.{Content}
 use Rattle.steps.specs.declared.reader.Output.{Output}
 use Rattle.steps.specs.declared.step.Step.{Step}
 use Rattle.steps.specs.Answers.{Rec, tape, chain, tapeAt, headOf}
 use Rattle.steps.specs.Steps.{Entry, message, fault, Out, out, putEntry, putAll}
 use Rattle.steps.specs.Runs.{Run, leaves}
-use Rattle.steps.specs.Parts.{isPart, partEntries, lastOutput, Told, partsFrom, toldBy, left}
+use Rattle.steps.specs.Parts.{isPart, messageKind, faultKind, partEntries, lastOutput, Told, partsFrom, toldBy, left}
 use Rattle.steps.proofs.Laws.{chain-found, chain-ended}
 use Rattle.steps.proofs.Runs.{leaves-before}
 
@@ -18,7 +19,7 @@ use Rattle.steps.proofs.Runs.{leaves-before}
 abbrev pub afterEntries : List Entry → Told → Told
 afterEntries l told = record { output = told .output; tape = told .tape; log = l ++ told .log }
 
-module _ (content proposer : ℕ) (output : Output) (i : ℕ) (r : Rec) (rs : List Rec) where
+module _ (content : Content) (proposer : ℕ) (output : Output) (i : ℕ) (r : Rec) (rs : List Rec) where
   pub parts-on : isPart (r .kind) ≡ true
       → partsFrom content proposer output i (r ∷ rs) ≡ afterEntries (partEntries content proposer (r .kind) (r .a) (r .b)) (partsFrom content proposer (lastOutput output (r .kind) (r .b)) (r .next) rs)
   unfolding partsFrom
@@ -29,12 +30,12 @@ module _ (content proposer : ℕ) (output : Output) (i : ℕ) (r : Rec) (rs : Li
   parts-off e = rw (e, partsFrom)
 
 -- the entry of a part, by its kind
-module _ (o : Out) (content proposer kind a b : ℕ) where
-  pub message-part : kind ≡ 16 → putEntry o (message content proposer b) ≡ putAll o (partEntries content proposer kind a b)
+module _ (o : Out) (content : Content) (proposer kind a b : ℕ) where
+  pub message-part : kind ≡ 16 → putEntry o (message (messageKind content) proposer b) ≡ putAll o (partEntries content proposer kind a b)
   unfolding partEntries putAll
   message-part e = rw (eq-eqb kind 16 e, partEntries)
 
-  pub fault-part : (kind ≡ 16 → ⊥) → kind ≡ 17 → putEntry o (fault (content + 7) a b) ≡ putAll o (partEntries content proposer kind a b)
+  pub fault-part : (kind ≡ 16 → ⊥) → kind ≡ 17 → putEntry o (fault (faultKind content) a b) ≡ putAll o (partEntries content proposer kind a b)
   unfolding partEntries putAll
   fault-part n e = rw (ne-eqb kind 16 n, eq-eqb kind 17 e, partEntries)
 
@@ -43,10 +44,10 @@ module _ (o : Out) (content proposer kind a b : ℕ) where
   other-part n m = rw (ne-eqb kind 16 n, ne-eqb kind 17 m, partEntries)
 
 -- the parts that a table has from a place on
-abbrev pub partsAt : ℕ → ℕ → Output → List ℕ → ℕ → Run (Unit {0}) Output
+abbrev pub partsAt : Content → ℕ → Output → List ℕ → ℕ → Run (Unit {0}) Output
 partsAt content proposer output t i = toldBy tt (partsFrom content proposer output i (chain t i))
 
-module _ (content proposer : ℕ) (output : Output) (t : List ℕ) (i : ℕ) where
+module _ (content : Content) (proposer : ℕ) (output : Output) (t : List ℕ) (i : ℕ) where
   pub parts-end : headOf (chain t i) ≡ End → (s : Step) (w : List ℕ) → left (record { output = output; step = s }) (tapeAt t i) w ≡ leaves (out s w) (partsAt content proposer output t i)
   unfolding partsFrom putAll
   parts-end e s w = rw (chain-ended (chain t i) e)

@@ -6,6 +6,7 @@ use mathlib.Core.Bool.{Bool, true, false, cond, _&&_}
 use mathlib.Core.Option.{Option}
 use lib.Dec.{eqb}
 use borrow.Author.Tests.{eqb-true}
+use Rattle.steps.specs.declared.reader.Content.{Content}
 use Rattle.steps.specs.declared.reader.Output.{Output}
 use Rattle.steps.specs.declared.reader.Answer.the-variants.{Got, Refused}
 use Rattle.steps.specs.Answers.{Rec, Tape, tape, Asked, asked, askFor, ask, askAbout}
@@ -70,7 +71,7 @@ module _ (is : ℕ → Bool) where
       past-for (λ r. eqb (r .kind) k && eqb (r .b) who) (λ r t. ap is (eqb-true (r .kind) k (and-true (eqb (r .kind) k) _ t .0)) ∙ e) p
 
   -- the parts of an answer
-  pub past-parts : ((k : ℕ) → isPart k ≡ true → is k ≡ true) → (content proposer : ℕ) (output : Output) (i : ℕ) (l : List Rec)
+  pub past-parts : ((k : ℕ) → isPart k ≡ true → is k ≡ true) → (content : Content) (proposer : ℕ) (output : Output) (i : ℕ) (l : List Rec)
       → Past is l (partsFrom content proposer output i l .tape .rest)
   unfolding partsFrom
   past-parts f content proposer output i [] = past-same []

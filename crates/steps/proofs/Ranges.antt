@@ -1,5 +1,5 @@
 -- What is read of an answer table is in range, a run keeps what its parts keep, and words below their limits stay so. Assumes nothing.
-use Prim.Native.Nat.{ℕ, zero, suc, _*_, _/_, _≤_, _<_}
+use Prim.Native.Nat.{ℕ, zero, suc, _*_, _≤_, _<_}
 use mathlib.Core.Path.{_≡_, refl, sym, _∙_}
 use mathlib.Core.List.{List, [], _∷_}
 use mathlib.Core.Bool.{Bool, true, false, cond, _&&_, _||_, false≢true}
@@ -11,16 +11,17 @@ use lib.Dec.{eqb, leb, ltb}
 use borrow.Author.Tests.{eqb-true, eqb-false, leb-true, ltb-true, ltb-false}
 use Rattle.steps.specs.declared.reader.Answer.{Answer}
 use Rattle.steps.specs.declared.reader.Answer.the-variants.{Got, Refused}
+use Rattle.steps.specs.declared.reader.Content.{Content}
 use Rattle.steps.specs.declared.reader.Output.{Output}
 use Rattle.steps.specs.declared.reader.Output.the-variants.{Missing, Value}
 use Rattle.steps.specs.Table.{within, handle, recordOk, word, mayFollow, chainOk, shapeOk, tableOk}
-use Rattle.steps.specs.Answers.{Rec, Tape, tape, link, recAt, chain, tapeOf, Asked, askFor, ask, askAbout}
+use Rattle.steps.specs.Answers.{Rec, Tape, tape, link, recAt, chain, tapeOf, Asked, asked, askFor, ask, askAbout}
 use Rattle.steps.specs.Steps.{Entry}
 use Rattle.steps.specs.Runs.{Verdict, going, refused, failed, Run, ends, onwardAs, onward, heardAs, heard, inside}
 use Rattle.steps.specs.Parts.{isPart, outputOf, lastOf, lastOutput, partsFrom, readParts}
 use Rattle.steps.proofs.Laws.{and-true, on-record, off-at-zero, link-up, link-end, chain-on, chain-off}
 use Rattle.steps.proofs.Parts.{parts-on, parts-off}
-use Rattle.steps.proofs.Chain.{follow-facts}
+use Rattle.steps.proofs.Chain.{follow-rule, follow-facts}
 
 -- A TEST that came out
 pub by-test : {P : Type 0} (x u v : Bool) → cond x u v ≡ true → (x ≡ true → u ≡ true → P) → (x ≡ false → v ≡ true → P) → P
@@ -67,21 +68,21 @@ linked-small t i h = go (ltb i (getD t (i * 4) 0)) refl
     go false e = rw (link-end t i (ltb-false _ _ e), chain-off t 0 (off-at-zero t)) tt
 
 chain-small : (fuel n : ℕ) (t : List ℕ) (own i context : ℕ) → n ≤ 16 → chainOk fuel n t own i context ≡ true → AllSmall (chain t i)
-unfolding chainOk AllSmall recAt mayFollow
+unfolding chainOk AllSmall recAt
 chain-small zero n t own i context few e = rw (eqb-true i 0 e, chain-off t 0 (off-at-zero t)) tt
 chain-small (suc fuel) n t own i context few e =
-    by-test (eqb i 0) _ _ e (λ z _. rw (eqb-true i 0 z, chain-off t 0 (off-at-zero t)) tt) (λ _ e.
+    by-test (eqb i 0) _ _ e (λ z _. rw (eqb-true i 0 z, chain-off t 0 (off-at-zero t)) tt) (λ z e.
     by-test (mayFollow n t own i context) _ _ e
-    (λ m e. here m (linked-small t i (chain-small fuel n t i (getD t (i * 4) 0) _ few e)))
+    (λ m e. here m (eqb-false i 0 z) (linked-small t i (chain-small fuel n t i (getD t (i * 4) 0) _ few e)))
     (λ _ e. absurd (false≢true e)))
   where
-    here : mayFollow n t own i context ≡ true → AllSmall (chain t (link t i)) → AllSmall (chain t i)
-    here m h =
-        let f = follow-facts n t own i context m in
+    here : mayFollow n t own i context ≡ true → (i ≡ 0 → ⊥) → AllSmall (chain t (link t i)) → AllSmall (chain t i)
+    here m d h =
+        let f = follow-facts n t own i context m d in
         rw (chain-on t i (on-record t i (omega arith) (f .1))) (fits m, h)
       where
         fits : mayFollow n t own i context ≡ true → Small (recAt t i)
-        fits m = record-small n context (word t i 1) (word t i 2) (word t i 3) few (and-true (ltb own i && ltb i (length t / 4)) _ m .1)
+        fits m = record-small n context (word t i 1) (word t i 2) (word t i 3) few (follow-rule n t own i context m)
 
 pub table-small : (n : ℕ) (t : List ℕ) → n ≤ 16 → tableOk n t ≡ true → AllSmall (tapeOf t .rest)
 unfolding tableOk
@@ -149,7 +150,7 @@ unfolding askFor AllSmall
 for-heard want not p [] o h = record { tape = o; small = λ a b e. let z : _≡_ {A = ℕ} 0 1 = cc in absurd (omega arith) }
 for-heard want not p (r ∷ rs) o h = go (want r) refl
   where
-    go : (x : Bool) → want r ≡ x → Heard (cond x (record { answer = Got (r .a) (r .b); tape = tape (r .next) rs }) (record { answer = Refused; tape = p }))
+    go : (x : Bool) → want r ≡ x → Heard (cond x (asked (Got (r .a) (r .b)) (tape (r .next) rs)) (asked Refused p))
     go true e = record { tape = h .1; small = λ a b g. let z : r .b ≡ b = cc in rw z at (h .0 (not r e)) }
     go false e = record { tape = o; small = λ a b e. let z : _≡_ {A = ℕ} 0 1 = cc in absurd (omega arith) }
 
@@ -203,7 +204,7 @@ last-small o r h l = go (eqb (r .kind) 18) refl
     go true e = h (λ z. omega (arith, eqb-true (r .kind) 18 e))
     go false e = l
 
-module _ (content proposer : ℕ) where
+module _ (content : Content) (proposer : ℕ) where
   parts-small : (o : Output) (i : ℕ) (l : List Rec) → AllSmall l → SmallOutput o
       → AllSmall (partsFrom content proposer o i l .tape .rest) × SmallOutput (partsFrom content proposer o i l .output)
   unfolding partsFrom AllSmall

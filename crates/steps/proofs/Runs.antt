@@ -6,7 +6,7 @@ use Rattle.steps.specs.declared.reader.Answer.{Answer}
 use Rattle.steps.specs.declared.reader.Answer.the-variants.{Got, Refused}
 use Rattle.steps.specs.Answers.{Tape, Asked, asked}
 use Rattle.steps.specs.Steps.{Entry, Out, putAll}
-use Rattle.steps.specs.Runs.{Verdict, going, refused, failed, Run, Left, ends, before, onwardAs, onward, heardAs, heard, leaves}
+use Rattle.steps.specs.Runs.{Verdict, going, refused, failed, numberOf, Run, Left, ends, before, onwardAs, onward, heardAs, heard, leaves}
 use Rattle.steps.proofs.Laws.{putAll-append}
 
 module _ {S A B : Type 0} (d : Left S A) (o : Out) (r : Run S A) (k : A → S → Tape → Run S B) (e : d ≡ leaves o r) where
@@ -77,3 +77,8 @@ module _ {S A : Type 0} (q : Asked) (x : Answer) (p : Tape) (s : S) (k : ℕ →
   pub heard-none : x ≡ Refused → heard q s k ≡ ends refused s p
   unfolding heard heardAs
   heard-none n = rw (← e, n)
+
+  -- a run that hears no answer ends with the number that asking replied
+  pub heard-number : x ≡ Refused → numberOf (heard q s k .verdict) ≡ q .reply
+  unfolding heard heardAs numberOf
+  heard-number n = rw (← e, n)

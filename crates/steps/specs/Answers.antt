@@ -8,6 +8,7 @@ use Rattle.steps.specs.declared.reader.Answer.{Answer}
 use Rattle.steps.specs.declared.reader.Answer.the-variants.{Got, Refused}
 use Rattle.steps.specs.declared.reader.Found.{Found}
 use Rattle.steps.specs.declared.reader.Found.the-variants.{Record, End}
+use Rattle.steps.specs.Verdicts.{Verdict, going, refused, numberOf}
 
 -- a record of the chain: the place after it, its kind, its two words
 pub record Rec : Type 0 where
@@ -51,18 +52,24 @@ tapeAt t i = tape i (chain t i)
 abbrev pub tapeOf : List ℕ → Tape
 tapeOf t = tapeAt t (getD t 0 0)
 
--- the first record of a chain
+-- the first record of a chain, with its four words; document 01 has no number for it
 unfoldable pub headOf : List Rec → Found
 headOf [] = End
 headOf (r ∷ rs) = Record (r .next) (r .kind) (r .a) (r .b)
 
--- what reading gave, and the tape afterwards
+-- what an answer comes to: the run goes on with its words a and b, or is refused
+abbrev pub verdictOf : Answer → Verdict (ℕ × ℕ)
+verdictOf (Got a b) = going (a, b)
+verdictOf Refused = refused
+
+-- what reading gave, document 01's number for it (0, or 8), and the tape afterwards
 pub record Asked : Type 0 where
   pub answer : Answer
+  pub reply : ℕ
   pub tape : Tape
 
 abbrev pub asked : Answer → Tape → Asked
-asked r p = record { answer = r; tape = p }
+asked r p = record { answer = r; reply = numberOf (verdictOf r); tape = p }
 
 -- the next record, where it is as wanted. Else nothing is read: "8: the answer wanted next is not next in the chain […], or the chain has ended"
 unfoldable pub askFor : (Rec → Bool) → Tape → List Rec → Asked

@@ -1,8 +1,11 @@
+pub mod Numbers
 pub mod Network
 pub mod Table
+pub mod Verdicts
 pub mod Answers
 pub mod Steps
 pub mod Runs
 pub mod Parts
 pub mod Taken
+pub mod Batches
 pub mod Opened

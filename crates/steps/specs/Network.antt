@@ -2,12 +2,13 @@
 use Prim.Native.Nat.{ℕ, _*_, _-_, _≤_, _<_}
 use mathlib.Core.Bool.{Bool}
 use lib.Dec.{ltb}
+use Rattle.steps.specs.Numbers.{nodeLimit}
 use Rattle.steps.specs.declared.network_info.NetworkInfo.{NetworkInfo}
 
 -- the shape that create has tested: 1 to 16 nodes, 3 × f below N, an own index of at most N
 pub record Network (net : NetworkInfo) : Type 0 where
   pub some : 1 ≤ net .«num_nodes»
-  pub sixteen : net .«num_nodes» ≤ 16
+  pub sixteen : net .«num_nodes» ≤ nodeLimit
   pub faulty : 3 * net .«num_faulty» < net .«num_nodes»
   pub own : net .«our_id» ≤ net .«num_nodes»
 

@@ -1,8 +1,11 @@
 -- The parts of an answer: 16 message, 17 fault, 18 output.
-use Prim.Native.Nat.{ℕ, _+_}
+use Prim.Native.Nat.{ℕ}
 use mathlib.Core.List.{List, [], _∷_, _++_}
 use mathlib.Core.Bool.{Bool, true, false, cond, _&&_}
 use lib.Dec.{eqb, leb}
+use Rattle.steps.specs.Numbers.{messagePart, faultPart, outputPart, broadcastContent, agreementContent, broadcastFault, agreementFault}
+use Rattle.steps.specs.declared.reader.Content.{Content}
+use Rattle.steps.specs.declared.reader.Content.the-variants.{Broadcast, Agreement}
 use Rattle.steps.specs.declared.reader.Output.{Output}
 use Rattle.steps.specs.declared.reader.Output.the-variants.{Missing, Value}
 use Rattle.steps.specs.declared.reader.Parts.{Parts}
@@ -11,17 +14,27 @@ use Rattle.steps.specs.Steps.{Entry, message, fault, out}
 use Rattle.steps.specs.Runs.{going, Run, Left}
 
 unfoldable pub isPart : ℕ → Bool
-isPart kind = leb 16 kind && leb kind 18
+isPart kind = leb messagePart kind && leb kind outputPart
 
--- a message becomes one of the proposer's, of kind 1 (broadcast) or 2 (agreement); a fault becomes fault 8 or 9, with the kind given
-unfoldable pub partEntries : ℕ → ℕ → ℕ → ℕ → ℕ → List Entry
+-- the numbers of a content: its messages in the step are "kind 1 broadcast, 2 agreement"
+abbrev pub messageKind : Content → ℕ
+messageKind Broadcast = broadcastContent
+messageKind Agreement = agreementContent
+
+-- its faults "8 broadcast and 9 agreement fault (b = kind given)"
+abbrev pub faultKind : Content → ℕ
+faultKind Broadcast = broadcastFault
+faultKind Agreement = agreementFault
+
+-- a message becomes one of the proposer's, a fault one with the kind given
+unfoldable pub partEntries : Content → ℕ → ℕ → ℕ → ℕ → List Entry
 partEntries content proposer kind a b =
-    cond (eqb kind 16) (message content proposer b ∷ [])
-    (cond (eqb kind 17) (fault (content + 7) a b ∷ []) [])
+    cond (eqb kind messagePart) (message (messageKind content) proposer b ∷ [])
+    (cond (eqb kind faultPart) (fault (faultKind content) a b ∷ []) [])
 
--- the output of one part
+-- the output of one part: the b of an 18
 unfoldable pub outputOf : ℕ → ℕ → Output
-outputOf kind b = cond (eqb kind 18) (Value b) Missing
+outputOf kind b = cond (eqb kind outputPart) (Value b) Missing
 
 -- "Of several outputs the last counts, as `pop` does"
 unfoldable pub lastOf : Output → Output → Output
@@ -38,7 +51,7 @@ pub record Told : Type 0 where
   pub log : List Entry
 
 -- the parts from here on, where `output` is the last so far and the reader stands at place i
-unfoldable pub partsFrom : ℕ → ℕ → Output → ℕ → List Rec → Told
+unfoldable pub partsFrom : Content → ℕ → Output → ℕ → List Rec → Told
 partsFrom content proposer output i [] = record { output = output; tape = tape i []; log = [] }
 partsFrom content proposer output i (r ∷ rs) =
     elim (isPart (r .kind)) [
@@ -51,7 +64,7 @@ abbrev pub toldBy : {S : Type 0} → S → Told → Run S Output
 toldBy s told = record { state = s; verdict = going (told .output); tape = told .tape; log = told .log }
 
 -- reading the parts of an answer, in any layer
-abbrev pub readParts : {S : Type 0} → ℕ → ℕ → S → Tape → Run S Output
+abbrev pub readParts : {S : Type 0} → Content → ℕ → S → Tape → Run S Output
 readParts content proposer s p = toldBy s (partsFrom content proposer Missing (p .place) (p .rest))
 
 -- what the reader leaves; it has no state of its own

@@ -1,22 +1,12 @@
 -- Runs of every layer. S is the layer's state, A the value with which a run goes on.
 use Prim.Native.Nat.{ℕ}
 use mathlib.Core.List.{List, [], _++_}
+pub use Rattle.steps.specs.Verdicts.{Verdict, going, refused, failed}
+unfoldable pub use Rattle.steps.specs.Verdicts.{numberOf}
 use Rattle.steps.specs.declared.reader.Answer.{Answer}
 use Rattle.steps.specs.declared.reader.Answer.the-variants.{Got, Refused}
 use Rattle.steps.specs.Answers.{Tape, Asked}
 use Rattle.steps.specs.Steps.{Entry, Out, putAll}
-
--- a run goes on with a value, is refused for want of an answer, or fails with the number of the Rust's error
-pub data Verdict (A : Type 0) : Type 0 where
-  going : A → Verdict A
-  refused : Verdict A
-  failed : ℕ → Verdict A
-
--- document 01's number
-unfoldable pub numberOf : {A : Type 0} → Verdict A → ℕ
-numberOf (going a) = 0
-numberOf refused = 8
-numberOf (failed n) = n
 
 -- the state afterwards, the verdict, the answers that are left, and the entries that the step got, in order
 pub record Run (S A : Type 0) : Type 0 where

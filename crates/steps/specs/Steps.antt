@@ -4,6 +4,7 @@ use mathlib.Core.List.{List, [], _∷_, _++_}
 use mathlib.Core.Bool.{Bool, true, false, cond}
 use lib.ListN.{length, drop, set}
 use lib.Dec.{ltb, leb, eqb}
+use Rattle.steps.specs.Numbers.{countLimit}
 use Rattle.steps.specs.declared.step.Chain.{Chain}
 use Rattle.steps.specs.declared.step.Step.{Step}
 
@@ -94,12 +95,12 @@ nextOf i end = cond (eqb i end) 0 i
 
 -- a chain with one record more; counting stops at 2^32
 unfoldable pub advance : Chain → Chain
-advance c = cond (leb 4294967296 (c .at)) c (record { at = c .at + 1; end = c .end })
+advance c = cond (leb countLimit (c .at)) c (record { at = c .at + 1; end = c .end })
 
 -- the words with the chain's next record in them, where the table has it
 unfoldable pub putAt : List ℕ → Chain → ℕ → ℕ → ℕ → List ℕ
 putAt w c k a b =
-    cond (leb 4294967296 (c .at)) w
+    cond (leb countLimit (c .at)) w
     (cond (ltb (c .at) (length w / 4))
     (set (set (set (set w (c .at * 4) (nextOf (c .at + 1) (c .end))) (c .at * 4 + 1) k) (c .at * 4 + 2) a) (c .at * 4 + 3) b)
     w)
@@ -128,13 +129,13 @@ counting =
 
 -- what counting leaves: no count is above 2^32
 pub record Counted (s : Step) : Type 0 where
-  pub messages : s .messages .at ≤ 4294967296
-  pub faults : s .faults .at ≤ 4294967296
-  pub outputs : s .outputs .at ≤ 4294967296
+  pub messages : s .messages .at ≤ countLimit
+  pub faults : s .faults .at ≤ countLimit
+  pub outputs : s .outputs .at ≤ countLimit
 
 -- the step of a second run: where each list of a counted step begins and ends
-abbrev pub starting : Step → Step
-starting s =
+abbrev pub writing : Step → Step
+writing s =
     record {
       messages = record { at = 1; end = 1 + s .messages .at };
       faults = record { at = 1 + s .messages .at; end = 1 + s .messages .at + s .faults .at };

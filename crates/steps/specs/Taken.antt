@@ -4,6 +4,7 @@ use mathlib.Core.List.{List, [], _∷_, _++_}
 use mathlib.Core.Bool.{Bool, true, false, cond, _&&_, _||_}
 use mathlib.Core.Option.{Option, none, some}
 use lib.Dec.{eqb}
+use Rattle.steps.specs.Numbers.{broadcastProposal, broadcastMessage, agreementMessage, proposeFalse, ciphertextReads, contributionDecrypted, contributionReads, outputPart}
 use Rattle.steps.specs.Table.{within}
 use Rattle.steps.specs.Answers.{Rec}
 use Rattle.steps.specs.Parts.{isPart}
@@ -25,7 +26,7 @@ isTrue (some d) = eqb d 1
 unfoldable pub lastOutputIn : List Rec → Option ℕ
 lastOutputIn [] = none
 lastOutputIn (r ∷ rs) =
-    cond (isPart (r .kind)) (orElse (lastOutputIn rs) (cond (eqb (r .kind) 18) (some (r .b)) none)) none
+    cond (isPart (r .kind)) (orElse (lastOutputIn rs) (cond (eqb (r .kind) outputPart) (some (r .b)) none)) none
 
 -- "the last output of the first […] answer for it that has an output", of the kinds that `is` tells
 unfoldable pub firstTaken : (ℕ → Bool) → ℕ → List Rec → Option ℕ
@@ -34,11 +35,11 @@ firstTaken is p (r ∷ rs) = orElse (cond (is (r .kind) && eqb (r .b) p) (lastOu
 
 -- "the value taken for a proposer is the last output of the first kind 3 or 4 answer for it that has an output"
 abbrev pub ofValue : ℕ → Bool
-ofValue kind = within 3 4 kind
+ofValue kind = within broadcastProposal broadcastMessage kind
 
 -- "the decision is the same of kinds 5 to 7"
 abbrev pub ofDecision : ℕ → Bool
-ofDecision kind = within 5 7 kind
+ofDecision kind = within agreementMessage proposeFalse kind
 
 -- whether an answer of this kind about p was asked for
 unfoldable pub asked : ℕ → ℕ → List Rec → Bool
@@ -53,7 +54,7 @@ onesFrom decision (suc m) p = cond (isTrue (decision p)) 1 0 + onesFrom decision
 -- "12 [concerns] that of the last 8 before it in the call, in a share message that of the message's proposer": the proposer that a 12
 -- concerns after a record, where it was `who` before it
 unfoldable pub concernedAfter : Option ℕ → Rec → Option ℕ
-concernedAfter who r = cond (eqb (r .kind) 8) (some (r .b)) who
+concernedAfter who r = cond (eqb (r .kind) ciphertextReads) (some (r .b)) who
 
 unfoldable pub concerns : Option ℕ → ℕ → Bool
 concerns none p = false
@@ -63,9 +64,9 @@ concerns (some q) p = eqb q p
 unfoldable pub firstDecrypted : ℕ → Option ℕ → List Rec → Option ℕ
 firstDecrypted p who [] = none
 firstDecrypted p who (r ∷ rs) =
-    orElse (cond (eqb (r .kind) 12 && concerns who p) (some (r .b)) none) (firstDecrypted p (concernedAfter who r) rs)
+    orElse (cond (eqb (r .kind) contributionDecrypted && concerns who p) (some (r .b)) none) (firstDecrypted p (concernedAfter who r) rs)
 
 -- the 13s of a chain
 unfoldable pub thirteensIn : List Rec → List Rec
 thirteensIn [] = []
-thirteensIn (r ∷ rs) = cond (eqb (r .kind) 13) (r ∷ []) [] ++ thirteensIn rs
+thirteensIn (r ∷ rs) = cond (eqb (r .kind) contributionReads) (r ∷ []) [] ++ thirteensIn rs

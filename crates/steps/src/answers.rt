@@ -1,12 +1,27 @@
 // Reply 5: whether a table of words is an answer table, as document 01 has it.
 ghost use mathlib.Core.Path.{_≡_};
-ghost use Rattle.steps.specs.Table.{handle, recordOk, contextAfter, shapeOk, mayFollow, tableOk};
+ghost use Prim.Native.Nat.{_≤_};
+ghost use Rattle.steps.specs.Table.{handle, recordOk, contextAfter, shapeOk, linkOk, mayFollow, tableOk};
+use crate::numbers::BROADCAST_MESSAGE;
+use crate::numbers::BROADCAST_PROPOSAL;
+use crate::numbers::CONTRIBUTION_DECRYPTED;
+use crate::numbers::CONTRIBUTION_READS;
+use crate::numbers::FAULT_PART;
+use crate::numbers::HANDLE_LIMIT;
+use crate::numbers::INSTANCES_BUILT;
+use crate::numbers::MESSAGE_PART;
+use crate::numbers::OUTPUT_PART;
+use crate::numbers::OWN_DECRYPTION_SHARE;
+use crate::numbers::PROPOSAL_SERIALISED;
+use crate::numbers::PROPOSE_FALSE;
+use crate::numbers::SHARE_VERIFIES;
+use crate::numbers::TABLE_LIMIT;
 
 // A handle stands for bytes that the host holds.
 pub fn is_handle(b: u64) -> bool
     ensures { λ r. ⌜ r ≡ handle b ⌝ }
 {
-    (1 <= b) & (b <= 4294967295)
+    (1 <= b) & (b <= HANDLE_LIMIT)
 }
 
 // Whether a record keeps its kind's own range for a and b. The context is the kind of the answer that a part would belong to, or 0.
@@ -14,17 +29,25 @@ pub fn record_ok(n: u64, context: u64, kind: u64, a: u64, b: u64) -> bool
     ensures { λ r. ⌜ r ≡ recordOk n context kind a b ⌝ }
 {
     match kind {
-        1 => (a <= 1) & (b == 0),
-        2 | 12 => if a == 0 {
+        INSTANCES_BUILT => (a <= 1) & (b == 0),
+        PROPOSAL_SERIALISED | CONTRIBUTION_DECRYPTED => if a == 0 {
             b == 0
         } else {
             (a == 1) & is_handle(b)
         },
-        3..=10 | 13 => (a <= 1) & (b < n),
-        11 => (a == 1) & is_handle(b),
-        16 => (0 < context) & (a == 0),
-        17 => (0 < context) & (a < n) & (b <= 4294967295),
-        18 => (0 < context) & (a == 0) & (if context <= 4 { is_handle(b) } else { b <= 1 }),
+        // 3 to 10, and 13: b names a proposer or sender.
+        BROADCAST_PROPOSAL..=SHARE_VERIFIES | CONTRIBUTION_READS => (a <= 1) & (b < n),
+        OWN_DECRYPTION_SHARE => (a == 1) & is_handle(b),
+        MESSAGE_PART => (0 < context) & (a == 0),
+        FAULT_PART => (0 < context) & (a < n) & (b <= HANDLE_LIMIT),
+        // A handle after 3 and 4, 0 or 1 after 5 to 7.
+        OUTPUT_PART => (0 < context)
+            & (a == 0)
+            & (if context <= BROADCAST_MESSAGE {
+                is_handle(b)
+            } else {
+                b <= 1
+            }),
         _ => false,
     }
 }
@@ -34,31 +57,36 @@ fn context_after(context: u64, kind: u64, a: u64) -> u64
     ensures { λ r. ⌜ r ≡ contextAfter context kind a ⌝ }
 {
     match kind {
-        3..=7 => if a == 1 { kind } else { 0 },
-        16..=18 => context,
+        BROADCAST_PROPOSAL..=PROPOSE_FALSE => if a == 1 { kind } else { 0 },
+        MESSAGE_PART..=OUTPUT_PART => context,
         _ => 0,
     }
 }
 
 // The table's length, and the three zeros of record 0.
-fn shape_ok(answers: &[u64]) -> bool
-    ensures { λ r. ⌜ r ≡ shapeOk (now (answers .entry)) ⌝ }
+pub fn shape_ok(table: &[u64]) -> bool
+    ensures { λ r. ⌜ r ≡ shapeOk (now (table .entry)) ⌝ }
 {
-    let len = answers.len();
+    let len = table.len();
     if len < 4 {
         return false;
     }
-    (len <= 4096) & (len % 4 == 0) & (answers[1] == 0) & (answers[2] == 0) & (answers[3] == 0)
+    (len <= TABLE_LIMIT) & (len % 4 == 0) & (table[1] == 0) & (table[2] == 0) & (table[3] == 0)
 }
 
-// Whether record `i` may follow record `own`: its index is above and inside the table, and it keeps its kind's rule.
+// Whether record `own` may have this next: 0, or above its own index and inside the table.
+pub fn link_ok(table: &[u64], own: usize, next: usize) -> bool
+    ensures { λ r. ⌜ r ≡ linkOk (now (table .entry)) own next ⌝ }
+{
+    (next == 0) | ((own < next) & (next < table.len() / 4))
+}
+
+// Whether record `i` may follow record `own`: it may be its next, and it keeps its kind's rule.
 fn may_follow(n: u64, answers: &[u64], own: usize, i: usize, context: u64) -> bool
+    requires { ⌜ 1 ≤ i ⌝ }
     ensures { λ r. ⌜ r ≡ mayFollow n (now (answers .entry)) own i context ⌝ }
 {
-    if i <= own {
-        return false;
-    }
-    if answers.len() / 4 <= i {
+    if !link_ok(answers, own, i) {
         return false;
     }
     record_ok(

@@ -1,10 +1,16 @@
 // The answer reader: the records of the chain, one after the other. The place is lent and moves past what was read.
 ghost use mathlib.Core.Path.{_≡_};
-ghost use Prim.Native.Nat.{_≤_};
 ghost use Rattle.steps.specs.Answers.{chain, tapeAt, asked, headOf, ask, askAbout};
 ghost use Rattle.steps.specs.Steps.{out, putAll};
 ghost use Rattle.steps.specs.Runs.{leaves};
-ghost use Rattle.steps.specs.Parts.{isPart, partEntries, outputOf, lastOf, lastOutput, left, readParts};
+ghost use Rattle.steps.specs.Parts.{isPart, messageKind, faultKind, partEntries, outputOf, lastOf, lastOutput, left, readParts};
+use crate::numbers::AGREEMENT_CONTENT;
+use crate::numbers::AGREEMENT_FAULT;
+use crate::numbers::BROADCAST_CONTENT;
+use crate::numbers::BROADCAST_FAULT;
+use crate::numbers::FAULT_PART;
+use crate::numbers::MESSAGE_PART;
+use crate::numbers::OUTPUT_PART;
 use crate::step::Step;
 
 // What stands at a place of the answer table.
@@ -30,6 +36,12 @@ pub enum Output {
     Value(u64),
 }
 
+// Whose parts they are: a broadcast's or an agreement's.
+pub enum Content {
+    Broadcast,
+    Agreement,
+}
+
 // What the parts of an answer came to: their last output, and the step with their messages and faults.
 pub struct Parts {
     pub output: Output,
@@ -37,7 +49,7 @@ pub struct Parts {
 }
 
 // The record at a place. A next that is not above its own record ends the chain.
-fn peek(answers: &[u64], place: usize) -> Found
+pub fn peek(answers: &[u64], place: usize) -> Found
     ensures { λ r. ⌜ r ≡ headOf (chain (now (answers .entry)) place) ⌝ }
 {
     if place == 0 {
@@ -64,7 +76,8 @@ fn peek(answers: &[u64], place: usize) -> Found
 
 // The next answer, which has to be of this kind.
 pub fn ask(answers: &[u64], place: &mut usize, kind: u64) -> Answer
-    ensures { λ r. ⌜ asked r (tapeAt (now (answers .entry)) (now (place .exit))) ≡ ask (tapeAt (now (answers .entry)) (now (place .entry))) kind ⌝ }
+    ensures { λ r. ⌜ asked r (tapeAt (now (answers .entry)) (now (place .exit)))
+        ≡ ask (tapeAt (now (answers .entry)) (now (place .entry))) kind ⌝ }
 {
     let at = *place;
     match peek(answers, at) {
@@ -86,7 +99,8 @@ pub fn ask(answers: &[u64], place: &mut usize, kind: u64) -> Answer
 
 // The next answer, which has to be of this kind and about this node.
 pub fn ask_about(answers: &[u64], place: &mut usize, kind: u64, who: u64) -> Answer
-    ensures { λ r. ⌜ asked r (tapeAt (now (answers .entry)) (now (place .exit))) ≡ askAbout (tapeAt (now (answers .entry)) (now (place .entry))) kind who ⌝ }
+    ensures { λ r. ⌜ asked r (tapeAt (now (answers .entry)) (now (place .exit)))
+        ≡ askAbout (tapeAt (now (answers .entry)) (now (place .entry))) kind who ⌝ }
 {
     let at = *place;
     match peek(answers, at) {
@@ -110,27 +124,47 @@ pub fn ask_about(answers: &[u64], place: &mut usize, kind: u64, who: u64) -> Ans
 fn is_part(kind: u64) -> bool
     ensures { λ r. ⌜ r ≡ isPart kind ⌝ }
 {
-    (16 <= kind) & (kind <= 18)
+    (MESSAGE_PART <= kind) & (kind <= OUTPUT_PART)
 }
 
-// The step with a part's message or fault. `content` is 1 for a broadcast's parts, 2 for an agreement's.
+// The kind of its messages in the step.
+fn message_kind(content: Content) -> u64
+    ensures { λ r. ⌜ r ≡ messageKind content ⌝ }
+{
+    match content {
+        Content::Broadcast => BROADCAST_CONTENT,
+        Content::Agreement => AGREEMENT_CONTENT,
+    }
+}
+
+// The kind of its faults.
+fn fault_kind(content: Content) -> u64
+    ensures { λ r. ⌜ r ≡ faultKind content ⌝ }
+{
+    match content {
+        Content::Broadcast => BROADCAST_FAULT,
+        Content::Agreement => AGREEMENT_FAULT,
+    }
+}
+
+// The step with a part's message or fault.
 fn part_entry(
     step: Step,
     words: &mut [u64],
-    content: u64,
+    content: Content,
     proposer: u64,
     kind: u64,
     a: u64,
     b: u64,
 ) -> Step
-    requires { ⌜ content ≤ 2 ⌝ }
-    ensures { λ r. ⌜ out r (now (words .exit)) ≡ putAll (out step (now (words .entry))) (partEntries content proposer kind a b) ⌝ }
+    ensures { λ r. ⌜ out r (now (words .exit))
+        ≡ putAll (out step (now (words .entry))) (partEntries content proposer kind a b) ⌝ }
 {
-    if kind == 16 {
-        return step.message(words, content, proposer, b);
+    if kind == MESSAGE_PART {
+        return step.message(words, message_kind(content), proposer, b);
     }
-    if kind == 17 {
-        return step.fault(words, content + 7, a, b);
+    if kind == FAULT_PART {
+        return step.fault(words, fault_kind(content), a, b);
     }
     step
 }
@@ -139,7 +173,7 @@ fn part_entry(
 fn output_of(kind: u64, b: u64) -> Output
     ensures { λ r. ⌜ r ≡ outputOf kind b ⌝ }
 {
-    if kind == 18 {
+    if kind == OUTPUT_PART {
         return Output::Value(b);
     }
     Output::Missing
@@ -166,13 +200,13 @@ fn last_output(output: Output, kind: u64, b: u64) -> Output
 pub fn read_parts(
     answers: &[u64],
     place: &mut usize,
-    content: u64,
+    content: Content,
     proposer: u64,
     step: Step,
     words: &mut [u64],
 ) -> Parts
-    requires { ⌜ content ≤ 2 ⌝ }
-    ensures { λ r. ⌜ left r (tapeAt (now (answers .entry)) (now (place .exit))) (now (words .exit)) ≡ leaves (out step (now (words .entry))) (readParts content proposer tt (tapeAt (now (answers .entry)) (now (place .entry)))) ⌝ }
+    ensures { λ r. ⌜ left r (tapeAt (now (answers .entry)) (now (place .exit))) (now (words .exit))
+        ≡ leaves (out step (now (words .entry))) (readParts content proposer tt (tapeAt (now (answers .entry)) (now (place .entry)))) ⌝ }
 {
     let mut output = Output::Missing;
     let mut s = step;

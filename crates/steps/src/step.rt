@@ -5,7 +5,8 @@
 ghost use mathlib.Core.Path.{_≡_};
 ghost use Prim.Native.Nat.{_≤_};
 ghost use lib.ListN.{length};
-ghost use Rattle.steps.specs.Steps.{out, chained, putEntry, putAt, advance, nextOf, message, fault, output, counting, starting, records, firstOf, putHeader, Counted};
+ghost use Rattle.steps.specs.Steps.{out, chained, putEntry, putAt, advance, nextOf, message, fault, output, counting, writing, records, firstOf, putHeader, Counted};
+use crate::numbers::COUNT_LIMIT;
 
 // The records of one list: the index of the one that is written next, and the index past the last.
 pub struct Chain {
@@ -18,9 +19,6 @@ pub struct Step {
     pub faults: Chain,
     pub outputs: Chain,
 }
-
-// Counting stops here, far above what a call can write.
-const LIMIT: usize = 4294967296;
 
 // The next of the record before record `i`: none at the end of its chain.
 fn next_of(i: usize, end: usize) -> u64
@@ -43,11 +41,12 @@ impl Chain {
 
     // Writes the next record of the chain, where the table has it.
     fn put(self, words: &mut [u64], kind: u64, a: u64, b: u64) -> Chain
-        ensures { λ r. ⌜ chained r (now (words .exit)) ≡ chained (advance self) (putAt (now (words .entry)) self kind a b) ⌝ }
+        ensures { λ r. ⌜ chained r (now (words .exit))
+            ≡ chained (advance self) (putAt (now (words .entry)) self kind a b) ⌝ }
     {
         let at = self.at;
         let end = self.end;
-        if LIMIT <= at {
+        if COUNT_LIMIT <= at {
             return self;
         }
         if words.len() / 4 <= at {
@@ -76,9 +75,9 @@ impl Step {
     }
 
     // The step that writes what this one has counted: messages from record 1 on, then faults, then outputs.
-    pub fn starting(self) -> Step
+    pub fn writing(self) -> Step
         requires { ⌜ Counted self ⌝ }
-        ensures { λ r. ⌜ r ≡ starting self ⌝ }
+        ensures { λ r. ⌜ r ≡ writing self ⌝ }
     {
         let faults = 1 + self.messages.at;
         let outputs = faults + self.faults.at;
@@ -105,7 +104,8 @@ impl Step {
     }
 
     pub fn message(self, words: &mut [u64], kind: u64, a: u64, b: u64) -> Step
-        ensures { λ r. ⌜ out r (now (words .exit)) ≡ putEntry (out self (now (words .entry))) (message kind a b) ⌝ }
+        ensures { λ r. ⌜ out r (now (words .exit))
+            ≡ putEntry (out self (now (words .entry))) (message kind a b) ⌝ }
     {
         let chain = self.messages;
         let faults = self.faults;
@@ -119,7 +119,8 @@ impl Step {
     }
 
     pub fn fault(self, words: &mut [u64], kind: u64, a: u64, b: u64) -> Step
-        ensures { λ r. ⌜ out r (now (words .exit)) ≡ putEntry (out self (now (words .entry))) (fault kind a b) ⌝ }
+        ensures { λ r. ⌜ out r (now (words .exit))
+            ≡ putEntry (out self (now (words .entry))) (fault kind a b) ⌝ }
     {
         let chain = self.faults;
         let messages = self.messages;
@@ -133,7 +134,8 @@ impl Step {
     }
 
     pub fn output(self, words: &mut [u64], kind: u64, a: u64, b: u64) -> Step
-        ensures { λ r. ⌜ out r (now (words .exit)) ≡ putEntry (out self (now (words .entry))) (output kind a b) ⌝ }
+        ensures { λ r. ⌜ out r (now (words .exit))
+            ≡ putEntry (out self (now (words .entry))) (output kind a b) ⌝ }
     {
         let chain = self.outputs;
         let messages = self.messages;

@@ -9,6 +9,7 @@ use lib.ListN.{getD, set, length-set}
 use lib.Seq.{getD-set-same, getD-set-other}
 use lib.Dec.{eqb, ltb}
 use borrow.Author.Tests.{eqb-true, eqb-false, eq-eqb, ltb-true, ltb-false, le-leb, lt-leb}
+use Rattle.steps.specs.declared.reader.Content.the-variants.{Broadcast, Agreement}
 use Rattle.steps.specs.declared.network_info.NetworkInfo.{NetworkInfo}
 use Rattle.steps.specs.Network.{isValidator, numCorrect}
 use Rattle.steps.specs.Answers.{Rec, Tape}
@@ -208,12 +209,12 @@ module _ (old : ℕ → Bool) where
       broadcast-far : (k : ℕ) → Instance k → n ≤ p → (s : ProposalState) → asksBroadcast s ≡ true → (Q : Option ℕ → ProposalState → Tape → Type 0) → After (handleBroadcast error p k s u) Q
       unfolding handleBroadcast
       broadcast-far k i l s e Q =
-          rw e (after-onward (instanceAnswer error p k 1 s u) _ Q (after-map (instanceAnswer error p k 1 s u) _ _ (instance-ok n error p k 1 i s u g) (λ out t z x. absurd (omega (arith, x .1 .named)))))
+          rw e (after-onward (instanceAnswer error p k Broadcast s u) _ Q (after-map (instanceAnswer error p k Broadcast s u) _ _ (instance-ok n error p k Broadcast i s u g) (λ out t z x. absurd (omega (arith, x .1 .named)))))
 
       agreement-far : (k : ℕ) → Instance k → n ≤ p → (s : ProposalState) → asksAgreement s ≡ true → (Q : Option ℕ → ProposalState → Tape → Type 0) → After (handleAgreement error p k s u) Q
       unfolding handleAgreement
       agreement-far k i l s e Q =
-          rw e (after-onward (instanceAnswer error p k 2 s u) _ Q (after-map (instanceAnswer error p k 2 s u) _ _ (instance-ok n error p k 2 i s u g) (λ out t z x. absurd (omega (arith, x .1 .named)))))
+          rw e (after-onward (instanceAnswer error p k Agreement s u) _ Q (after-map (instanceAnswer error p k Agreement s u) _ _ (instance-ok n error p k Agreement i s u g) (λ out t z x. absurd (omega (arith, x .1 .named)))))
 
       pub broadcast-at : (k : ℕ) → Broadcasts k → After (broadcastAt net error k p w u) (λ _ w′ z. Begun n v d w (u .rest) w′ (z .rest))
       unfolding broadcastAt

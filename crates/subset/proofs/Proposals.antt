@@ -7,6 +7,8 @@ use mathlib.Core.Option.{Option, none, some}
 use native.Mathlib.Omega.{arith}
 use lib.Dec.{eqb}
 use borrow.Author.Tests.{eqb-true, eqb-false, ne-eqb}
+use Rattle.steps.specs.declared.reader.Content.{Content}
+use Rattle.steps.specs.declared.reader.Content.the-variants.{Broadcast, Agreement}
 use Rattle.steps.specs.declared.reader.Output.{Output}
 use Rattle.steps.specs.declared.reader.Output.the-variants.{Missing, Value}
 use Rattle.steps.specs.declared.reader.Answer.the-variants.{Got, Refused}
@@ -38,7 +40,7 @@ outputOf (some v) none = none
 outputOf (some v) (some zero) = none
 outputOf (some v) (some (suc d)) = some v
 
-module _ (n error p k content : ℕ) (i : Instance k) (s : ProposalState) where
+module _ (n error p k : ℕ) (content : Content) (i : Instance k) (s : ProposalState) where
   -- an instance's answer, where there is one
   pub instance-ok : (u : Tape) → Good n (u .rest) → After (instanceAnswer error p k content s u) (λ out t z. (t ≡ s) × Heard n k p (u .rest) (optionOf out) (z .rest))
   unfolding instanceAnswer heard heardAs askAbout askFor optionOf
@@ -94,8 +96,8 @@ pub agreement-ok : (n error p k : ℕ) → Instance k → (v : Option ℕ) (u : 
 unfolding handleAgreement
 agreement-ok n error p k i v u g =
     rw (asks-undecided v)
-    (after-onward (instanceAnswer error p k 2 (stateOf v none) u) _ _
-    (after-map (instanceAnswer error p k 2 (stateOf v none) u) _ _ (instance-ok n error p k 2 i (stateOf v none) u g) (λ out t z h.
+    (after-onward (instanceAnswer error p k Agreement (stateOf v none) u) _ _
+    (after-map (instanceAnswer error p k Agreement (stateOf v none) u) _ _ (instance-ok n error p k Agreement i (stateOf v none) u g) (λ out t z h.
     rw (h .0, agree-move v out) (record { answer = optionOf out; heard = h .1; state = refl; out = refl }))))
 
 -- A BROADCAST OR AGREEMENT MESSAGE, with the vote 1 that it may bring: what it took for p, by the kinds asked about
@@ -202,14 +204,14 @@ module _ (n error p k : ℕ) (i : Broadcasts k) where
       → After (handleBroadcast error p k (stateOf v d) u) (λ o s z. Went n p v d (u .rest) o s (z .rest))
   unfolding handleBroadcast asksBroadcast
   broadcast-ok none none e u g =
-      after-onward (instanceAnswer error p k 1 Ongoing u) _ _
-      (after-map (instanceAnswer error p k 1 Ongoing u) _ _ (instance-ok n error p k 1 (i .kind) Ongoing u g) (λ out t z h.
+      after-onward (instanceAnswer error p k Broadcast Ongoing u) _ _
+      (after-map (instanceAnswer error p k Broadcast Ongoing u) _ _ (instance-ok n error p k Broadcast (i .kind) Ongoing u g) (λ out t z h.
       rw (h .0) (ongoing-ok out (u .rest) z (h .1))))
   broadcast-ok (some v) none e u g = absurd (false≢true e)
   broadcast-ok none (some zero) e u g = absurd (false≢true e)
   broadcast-ok (some v) (some zero) e u g = absurd (false≢true e)
   broadcast-ok none (some (suc d)) e u g =
-      after-onward (instanceAnswer error p k 1 Accepted u) _ _
-      (after-map (instanceAnswer error p k 1 Accepted u) _ _ (instance-ok n error p k 1 (i .kind) Accepted u g) (λ out t z h.
+      after-onward (instanceAnswer error p k Broadcast Accepted u) _ _
+      (after-map (instanceAnswer error p k Broadcast Accepted u) _ _ (instance-ok n error p k Broadcast (i .kind) Accepted u g) (λ out t z h.
       rw (h .0) (accepted-ok d out (u .rest) z (h .1))))
   broadcast-ok (some v) (some (suc d)) e u g = absurd (false≢true e)

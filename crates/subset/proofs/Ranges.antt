@@ -9,6 +9,7 @@ use native.Mathlib.Nat.{mul-add-mod-self-right, mod-eq-of-lt, two-pow-succ}
 use lib.ListN.{getD, set, List·getD-eq-default}
 use lib.Dec.{ltb, eqb}
 use borrow.Author.Tests.{le-ltb, lt-ltb, ltb-true}
+use Rattle.steps.specs.declared.reader.Content.{Content}
 use Rattle.steps.specs.declared.network_info.NetworkInfo.{NetworkInfo}
 use Rattle.steps.specs.declared.reader.Output.{Output}
 use Rattle.steps.specs.declared.reader.Output.the-variants.{Missing, Value}
@@ -130,7 +131,7 @@ abbrev pub SafeProposal : (ProposalState → Tape → Run ProposalState (Option 
 SafeProposal k = (s : ProposalState) (p : Tape) → ProposalOk s → AllSmall (p .rest) → Kept ProposalOk SmallOption (k s p)
 
 module _ (error proposer : ℕ) where
-  answer-safe : (kind content : ℕ) → eqb kind 16 ≡ false → (s : ProposalState) (p : Tape) → ProposalOk s → AllSmall (p .rest)
+  answer-safe : (kind : ℕ) (content : Content) → eqb kind 16 ≡ false → (s : ProposalState) (p : Tape) → ProposalOk s → AllSmall (p .rest)
       → Kept ProposalOk SmallOutput (instanceAnswer error proposer kind content s p)
   unfolding instanceAnswer
   answer-safe kind content n s p h o =
@@ -143,7 +144,7 @@ module _ (error proposer : ℕ) where
   unfolding handleAgreement SmallOption
   agreement-safe kind n s p h o =
       kept-cond (asksAgreement s) _ _
-      (λ _. kept-onward _ _ (answer-safe kind 2 n s p h o) (λ out s q h o _. moved-safe _ q (agreement-moves s out h) o))
+      (λ _. kept-onward _ _ (answer-safe kind _ n s p h o) (λ out s q h o _. moved-safe _ q (agreement-moves s out h) o))
       (λ _. kept-going h o tt)
 
   value-safe : (s : ProposalState) (out : Output) (p : Tape) → ProposalOk s → AllSmall (p .rest) → SmallOutput out → Kept ProposalOk SmallOption (afterValue error proposer s out p)
@@ -157,7 +158,7 @@ module _ (error proposer : ℕ) where
   unfolding handleBroadcast SmallOption
   broadcast-safe kind n s p h o =
       kept-cond (asksBroadcast s) _ _
-      (λ _. kept-onward _ _ (answer-safe kind 1 n s p h o) (λ out s q h o u. value-safe s out q h o u))
+      (λ _. kept-onward _ _ (answer-safe kind _ n s p h o) (λ out s q h o u. value-safe s out q h o u))
       (λ _. kept-going h o tt)
 
 -- A PROPOSAL IN ITS TWO WORDS

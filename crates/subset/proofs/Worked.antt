@@ -9,7 +9,7 @@ use lib.ListN.{getD}
 use Rattle.steps.specs.declared.network_info.NetworkInfo.{NetworkInfo}
 use Rattle.steps.specs.Network.{Network}
 use Rattle.steps.specs.Answers.{link, recAt, onRecord, walk, chain, askFor, askAbout}
-use Rattle.steps.specs.Table.{recordOk, contextAfter, mayFollow, chainOk, shapeOk, tableOk}
+use Rattle.steps.specs.Table.{recordOk, contextAfter, linkOk, mayFollow, chainOk, shapeOk, tableOk}
 use Rattle.steps.specs.Runs.{onwardAs, onward, heardAs, heard}
 use Rattle.steps.specs.Parts.{isPart, partEntries, outputOf, lastOf, lastOutput, partsFrom}
 use Rattle.steps.specs.Taken.{orElse, isTrue, lastOutputIn, firstTaken, ofValue, ofDecision, onesFrom}
@@ -54,7 +54,7 @@ pub four-network : Network four
 four-network = record { some = omega arith; sixteen = omega arith; faulty = omega arith; own = omega arith }
 
 pub four-tables : tablesOk 4 (earlier ++ (third ∷ [])) ≡ true
-unfolding recordOk contextAfter mayFollow chainOk shapeOk tableOk tablesOk
+unfolding recordOk contextAfter linkOk mayFollow chainOk shapeOk tableOk tablesOk
 four-tables = refl
 
 -- the premises of the vote 1 for proposer 2 and of the vote 0 for proposer 3

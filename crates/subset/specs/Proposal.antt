@@ -3,6 +3,8 @@ use Prim.Native.Nat.{ℕ, zero, suc}
 use mathlib.Core.Bool.{Bool, true, false, cond}
 use mathlib.Core.Option.{Option, none, some}
 use lib.Dec.{eqb}
+use Rattle.steps.specs.declared.reader.Content.{Content}
+use Rattle.steps.specs.declared.reader.Content.the-variants.{Broadcast, Agreement}
 use Rattle.steps.specs.declared.reader.Output.{Output}
 use Rattle.steps.specs.declared.reader.Output.the-variants.{Missing, Value}
 use Rattle.steps.specs.Answers.{Tape, askAbout}
@@ -76,7 +78,7 @@ movedTo m p = ends (going (m .value)) (m .state) p
 
 module _ (error proposer : ℕ) where
   -- `convert_bc` and `convert_ba`: an instance's answer of this kind about the proposer, and its last output
-  unfoldable pub instanceAnswer : ℕ → ℕ → ProposalState → Tape → Run ProposalState Output
+  unfoldable pub instanceAnswer : ℕ → Content → ProposalState → Tape → Run ProposalState Output
   instanceAnswer kind content s p =
       heard (askAbout p kind proposer) s (λ a b q.
       cond (eqb a 0) (ends (failed error) s q) (readParts content proposer s q))
@@ -85,7 +87,7 @@ module _ (error proposer : ℕ) where
   unfoldable pub handleAgreement : ℕ → ProposalState → Tape → Run ProposalState (Option ℕ)
   handleAgreement kind s p =
       cond (asksAgreement s)
-      (onward (instanceAnswer kind 2 s p) (λ out s q. movedTo (afterAgreement s out) q))
+      (onward (instanceAnswer kind Agreement s p) (λ out s q. movedTo (afterAgreement s out) q))
       (ends (going none) s p)
 
   -- the value has come while the agreement is undecided: a vote 1 for it. "If propose(true) fails after a value, the proposal keeps HasValue."
@@ -100,7 +102,7 @@ module _ (error proposer : ℕ) where
   unfoldable pub handleBroadcast : ℕ → ProposalState → Tape → Run ProposalState (Option ℕ)
   handleBroadcast kind s p =
       cond (asksBroadcast s)
-      (onward (instanceAnswer kind 1 s p) (λ out s q. afterValue s out q))
+      (onward (instanceAnswer kind Broadcast s p) (λ out s q. afterValue s out q))
       (ends (going none) s p)
 
   -- `vote_false`

@@ -18,6 +18,7 @@ use libc::STDIN_FILENO;
 use libc::STDOUT_FILENO;
 use steps::network_info::NetworkInfo;
 use steps::reader::Answer;
+use steps::reader::Content;
 use steps::reader::Output;
 use steps::step::Step;
 
@@ -84,14 +85,12 @@ fn first(answers: &[u64]) -> usize {
     answers[0] as usize
 }
 
-// Kinds 3 and 4 are a broadcast's (content 1), 5 to 7 an agreement's (2).
-fn content_of(kind: u64) -> u64
-    ensures { λ r. ⌜ r ≤ 2 ⌝ }
-{
+// Kinds 3 and 4 are a broadcast's, 5 to 7 an agreement's.
+fn content_of(kind: u64) -> Content {
     if kind <= 4 {
-        return 1;
+        return Content::Broadcast;
     }
-    2
+    Content::Agreement
 }
 
 // An answer of this kind about this node, with its parts.
@@ -131,7 +130,7 @@ fn begin(counted: Step, words: &mut [u64], epoch: u64) -> Step {
     if 9 < outputs.at {
         return Step::counting();
     }
-    let step = counted.starting();
+    let step = counted.writing();
     if 4 <= words.len() {
         step.header(words, epoch);
     }

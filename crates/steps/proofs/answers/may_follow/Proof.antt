@@ -1,86 +1,98 @@
 -- Made by `fill` from answers.txt: change that and fill again.
-use borrow.Author.Tests.{lt-ltb, le-ltb}
-use Rattle.steps.specs.Table.{mayFollow}
+use mathlib.Core.Path.{_≡_, sym, _∙_}
+use mathlib.Core.Bool.{true}
+use Prim.Native.Nat.{_/_, _<_}
+use native.Mathlib.Omega.{arith}
+use lib.ListN.{length}
+use borrow.Author.Tests.{not-true, not-false}
+use Rattle.steps.specs.Table.{linkOk, mayFollow}
+use Rattle.steps.proofs.Chain.{link-facts}
 use borrow.Author.Needs.{needs}
 use Rattle.steps.proofs.answers.may_follow.Statement.{statement}
 use Rattle.steps.proofs.answers.may_follow.Tie as tie
 use Rattle.steps.proofs.answers.may_follow.Reads as reads
 use Rattle.steps.proofs.answers.may_follow.Lts as lts
+use Rattle.steps.proofs.answers.link_ok.Reads as link-ok-reads
 use Rattle.steps.proofs.answers.record_ok.Reads as record-ok-reads
 
--- src/answers.rt:59:9
+linked : (c : tie.Else1) → linkOk (c .before .before .before .args .answers .now) (c .before .before .before .args .own) (c .before .before .before .args .i) ≡ true
+linked c = sym (c .before .link-ok .ensures) ∙ not-false _ (c .if1 .left)
+
+inside : (c : tie.Else1) → c .before .before .before .args .i < length (c .before .before .before .args .answers .now) / 4
+inside c = link-facts _ _ _ (linked c) (λ e. omega arith) .1
+
+-- src/answers.rt:89:9
+link-ok-requires : tie.Need-link-ok-requires
+link-ok-requires c κs = search needs
+
+-- src/answers.rt:90:9
 returns : tie.Need-returns
 unfolding mayFollow
-returns c = rw (le-ltb _ _ (c .if1 .taken))
+returns c = rw (sym (c .before .link-ok .ensures) ∙ not-true _ (c .if1 .taken))
 
--- src/answers.rt:62:9
-returns-2 : tie.Need-returns-2
-unfolding mayFollow
-returns-2 c = rw (lt-ltb _ _ (c .before .if1 .left), le-ltb _ _ (c .if2 .taken))
-
--- src/answers.rt:67:17
+-- src/answers.rt:95:17
 mul-record-ok : tie.Need-mul-record-ok
-mul-record-ok c = search needs
+mul-record-ok c = omega (arith, inside (c))
 
--- src/answers.rt:67:17
+-- src/answers.rt:95:17
 add-record-ok : tie.Need-add-record-ok
-add-record-ok c = search needs
+add-record-ok c = omega (arith, inside (c))
 
--- src/answers.rt:67:9
+-- src/answers.rt:95:9
 mul-record-ok-2 : tie.Need-mul-record-ok-2
-mul-record-ok-2 c = search needs
+mul-record-ok-2 c = omega (arith, inside (c))
 
--- src/answers.rt:67:9
+-- src/answers.rt:95:9
 shared-slice-read-record-ok : tie.Need-shared-slice-read-record-ok
-shared-slice-read-record-ok c = search needs
+shared-slice-read-record-ok c = omega (arith, inside (c .before))
 
--- src/answers.rt:68:17
+-- src/answers.rt:96:17
 mul-record-ok-3 : tie.Need-mul-record-ok-3
-mul-record-ok-3 c = search needs
+mul-record-ok-3 c = omega (arith, inside (c .before))
 
--- src/answers.rt:68:17
+-- src/answers.rt:96:17
 add-record-ok-2 : tie.Need-add-record-ok-2
-add-record-ok-2 c = search needs
+add-record-ok-2 c = omega (arith, inside (c .before))
 
--- src/answers.rt:68:9
+-- src/answers.rt:96:9
 mul-record-ok-4 : tie.Need-mul-record-ok-4
-mul-record-ok-4 c = search needs
+mul-record-ok-4 c = omega (arith, inside (c .before))
 
--- src/answers.rt:68:9
+-- src/answers.rt:96:9
 shared-slice-read-record-ok-2 : tie.Need-shared-slice-read-record-ok-2
-shared-slice-read-record-ok-2 c = search needs
+shared-slice-read-record-ok-2 c = omega (arith, inside (c .before .before))
 
--- src/answers.rt:69:17
+-- src/answers.rt:97:17
 mul-record-ok-5 : tie.Need-mul-record-ok-5
-mul-record-ok-5 c = search needs
+mul-record-ok-5 c = omega (arith, inside (c .before .before))
 
--- src/answers.rt:69:17
+-- src/answers.rt:97:17
 add-record-ok-3 : tie.Need-add-record-ok-3
-add-record-ok-3 c = search needs
+add-record-ok-3 c = omega (arith, inside (c .before .before))
 
--- src/answers.rt:69:9
+-- src/answers.rt:97:9
 mul-record-ok-6 : tie.Need-mul-record-ok-6
-mul-record-ok-6 c = search needs
+mul-record-ok-6 c = omega (arith, inside (c .before .before))
 
--- src/answers.rt:69:9
+-- src/answers.rt:97:9
 shared-slice-read-record-ok-3 : tie.Need-shared-slice-read-record-ok-3
-shared-slice-read-record-ok-3 c = search needs
+shared-slice-read-record-ok-3 c = omega (arith, inside (c .before .before .before))
 
--- src/answers.rt:64:5
+-- src/answers.rt:92:5
 record-ok-requires : tie.Need-record-ok-requires
 record-ok-requires c κs = search needs
 
--- src/answers.rt:55:1
-returns-3 : tie.Need-returns-3
+-- src/answers.rt:85:1
+returns-2 : tie.Need-returns-2
 unfolding mayFollow
-returns-3 c = rw (lt-ltb _ _ (c .before .before .before .before .before .if1 .left), lt-ltb _ _ (c .before .before .before .before .if2 .left), c .record-ok .ensures)
+returns-2 c = rw (linked (c .before .before .before .before), c .record-ok .ensures)
 
 pub may-follow-spec : {M : Type 1} → statement M
 may-follow-spec =
     tie.close
     (tie.spec
+    link-ok-requires
     returns
-    returns-2
     mul-record-ok
     add-record-ok
     mul-record-ok-2
@@ -94,4 +106,4 @@ may-follow-spec =
     mul-record-ok-6
     shared-slice-read-record-ok-3
     record-ok-requires
-    returns-3)
+    returns-2)

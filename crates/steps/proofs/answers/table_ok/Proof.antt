@@ -29,93 +29,93 @@ follows : (c : tie.Else2 Inv-loop μ-loop) → mayFollow (c .before .before .bef
 follows c = sym (c .before .may-follow .ensures) ∙ not-false _ (c .if2 .left)
 
 inside : (c : tie.Else2 Inv-loop μ-loop) → (c .before .before .before .loop .own < c .before .before .before .loop .next) × (c .before .before .before .loop .next < length (c .before .before .before .before .before .before .before .before .args .answers .now) / 4)
-inside c = follow-facts _ _ _ _ _ (follows c)
+inside c = follow-facts _ _ _ _ _ (follows c) (c .before .before .loop-test .taken)
 
--- src/answers.rt:77:9
+-- src/answers.rt:105:9
 shape-ok-requires : tie.Need-shape-ok-requires Inv-loop μ-loop
 shape-ok-requires c κs = search needs
 
--- src/answers.rt:78:9
+-- src/answers.rt:106:9
 returns : tie.Need-returns Inv-loop μ-loop
 unfolding tableOk
 returns c = rw (sym (c .before .shape-ok .ensures) ∙ not-true _ (c .if1 .taken))
 
--- src/answers.rt:81:20
+-- src/answers.rt:109:20
 shared-slice-read-next : tie.Need-shared-slice-read-next Inv-loop μ-loop
 shared-slice-read-next c = omega (arith, shape-length _ (shaped (c .before)))
 
--- src/answers.rt:83:5
+-- src/answers.rt:111:5
 loop-holds : tie.Need-loop-holds Inv-loop μ-loop
 loop-holds c = (omega (arith, shape-length _ (shaped (c .before))), (length (c .before .before .before .before .args .answers .now), (omega arith, refl)))
 
--- src/answers.rt:84:13
+-- src/answers.rt:112:13
 may-follow-requires : tie.Need-may-follow-requires Inv-loop μ-loop
 may-follow-requires c κs = search needs
 
--- src/answers.rt:85:13
+-- src/answers.rt:113:13
 returns-2 : tie.Need-returns-2 Inv-loop μ-loop
 unfolding tableOk
 returns-2 c = rw (shaped (c .before .before .before .before .before)) (sym (c .before .before .before .loop .inv .1 .1 .1 ∙ chain-step _ (c .before .before .before .before .before .before .before .before .args .answers .now) (c .before .before .before .loop .own) (c .before .before .before .loop .next) (c .before .before .before .loop .context) (c .before .before .before .loop .inv .1 .0) (c .before .before .before .loop .inv .1 .1 .0) (c .before .before .before .loop .inv .0) (c .before .before .loop-test .taken) ∙ rw (sym (c .before .may-follow .ensures) ∙ not-true _ (c .if2 .taken))))
 
--- src/answers.rt:87:50
+-- src/answers.rt:115:50
 mul-context-after : tie.Need-mul-context-after Inv-loop μ-loop
 mul-context-after c = omega (arith, inside (c))
 
--- src/answers.rt:87:50
+-- src/answers.rt:115:50
 add-context-after : tie.Need-add-context-after Inv-loop μ-loop
 add-context-after c = omega (arith, inside (c))
 
--- src/answers.rt:87:42
+-- src/answers.rt:115:42
 mul-context-after-2 : tie.Need-mul-context-after-2 Inv-loop μ-loop
 mul-context-after-2 c = omega (arith, inside (c))
 
--- src/answers.rt:87:42
+-- src/answers.rt:115:42
 shared-slice-read-context-after : tie.Need-shared-slice-read-context-after Inv-loop μ-loop
 shared-slice-read-context-after c = omega (arith, inside (c .before))
 
--- src/answers.rt:87:73
+-- src/answers.rt:115:73
 mul-context-after-3 : tie.Need-mul-context-after-3 Inv-loop μ-loop
 mul-context-after-3 c = omega (arith, inside (c .before))
 
--- src/answers.rt:87:73
+-- src/answers.rt:115:73
 add-context-after-2 : tie.Need-add-context-after-2 Inv-loop μ-loop
 add-context-after-2 c = omega (arith, inside (c .before))
 
--- src/answers.rt:87:65
+-- src/answers.rt:115:65
 mul-context-after-4 : tie.Need-mul-context-after-4 Inv-loop μ-loop
 mul-context-after-4 c = omega (arith, inside (c .before))
 
--- src/answers.rt:87:65
+-- src/answers.rt:115:65
 shared-slice-read-context-after-2 : tie.Need-shared-slice-read-context-after-2 Inv-loop μ-loop
 shared-slice-read-context-after-2 c = omega (arith, inside (c .before .before))
 
--- src/answers.rt:87:9
+-- src/answers.rt:115:9
 context-after-requires : tie.Need-context-after-requires Inv-loop μ-loop
 context-after-requires c κs = search needs
 
--- src/answers.rt:89:24
+-- src/answers.rt:117:24
 mul-next : tie.Need-mul-next Inv-loop μ-loop
 mul-next c = omega (arith, inside (c .before .before .before))
 
--- src/answers.rt:89:16
+-- src/answers.rt:117:16
 mul-next-2 : tie.Need-mul-next-2 Inv-loop μ-loop
 mul-next-2 c = omega (arith, inside (c .before .before .before))
 
--- src/answers.rt:89:16
+-- src/answers.rt:117:16
 shared-slice-read-next-2 : tie.Need-shared-slice-read-next-2 Inv-loop μ-loop
 shared-slice-read-next-2 c = omega (arith, inside (c .before .before .before .before))
 
--- src/answers.rt:83:5
+-- src/answers.rt:111:5
 loop-less : tie.Need-loop-less Inv-loop μ-loop
 loop-less c = omega (arith, inside (c .before .before .before .before))
 
--- src/answers.rt:83:5
+-- src/answers.rt:111:5
 loop-again : tie.Need-loop-again Inv-loop μ-loop
 loop-again c =
     let f = inside (c .before .before .before .before) in
     (omega (arith, f), (c .before .before .before .before .before .before .before .loop .inv .1 .0 - 1, (omega (arith, f), c .before .before .before .before .before .before .before .loop .inv .1 .1 .1 ∙ chain-step _ (c .before .before .before .before .before .before .before .before .before .before .before .before .args .answers .now) (c .before .before .before .before .before .before .before .loop .own) (c .before .before .before .before .before .before .before .loop .next) (c .before .before .before .before .before .before .before .loop .context) (c .before .before .before .before .before .before .before .loop .inv .1 .0) (c .before .before .before .before .before .before .before .loop .inv .1 .1 .0) (c .before .before .before .before .before .before .before .loop .inv .0) (c .before .before .before .before .before .before .loop-test .taken) ∙ rw (follows (c .before .before .before .before), c .before .context-after .ensures))))
 
--- src/answers.rt:74:1
+-- src/answers.rt:102:1
 returns-3 : tie.Need-returns-3 Inv-loop μ-loop
 unfolding tableOk
 returns-3 c = rw (shaped (c .before .before .before)) (sym (c .before .loop .inv .1 .1 .1 ∙ chain-end _ _ (c .before .loop .own) (c .before .loop .next) (c .before .loop .context) (c .before .loop .inv .1 .0) (c .loop-test .left)))
