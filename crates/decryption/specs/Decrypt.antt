@@ -5,6 +5,7 @@ use mathlib.Core.Bool.{Bool, true, false, cond, _&&_, not}
 use mathlib.Core.Option.{Option, none, some}
 use lib.ListN.{getD, set, replicate}
 use lib.Dec.{leb, eqb}
+use Rattle.steps.specs.Numbers.{ciphertextVerifies, shareVerifies, ownDecryptionShare, contributionDecrypted, shareContent, multipleDecryptionShares, unverifiedDecryptionShareSender, decryption, multipleInputs, nodeLimit}
 use Rattle.steps.specs.declared.network_info.NetworkInfo.{NetworkInfo}
 use Rattle.steps.specs.Network.{isValidator}
 use Rattle.steps.specs.Answers.{Tape, ask, askAbout}
@@ -14,7 +15,7 @@ use Rattle.decryption.specs.declared.ThresholdDecrypt.{ThresholdDecrypt}
 
 -- an instance that waits for shares and a ciphertext
 abbrev pub new : ThresholdDecrypt
-new = record { ciphertext = 0; shares = replicate 16 0; «had_input» = false; terminated = false }
+new = record { ciphertext = 0; shares = replicate nodeLimit 0; «had_input» = false; terminated = false }
 
 -- an instance with one field changed
 abbrev pub withCiphertext : ThresholdDecrypt → ℕ → ThresholdDecrypt
@@ -43,20 +44,20 @@ countFrom zero i s = 0
 countFrom (suc n) i s = cond (eqb (getD s i 0) 0) 0 1 + countFrom n (i + 1) s
 
 abbrev pub countShares : List ℕ → ℕ
-countShares s = countFrom 16 0 s
+countShares s = countFrom nodeLimit 0 s
 
 -- true where the ciphertext is set, false where it does not verify. A second one fails before it is verified; 25 `MultipleInputs`
 unfoldable pub setCiphertext : ℕ → ℕ → ThresholdDecrypt → Tape → Run ThresholdDecrypt Bool
 setCiphertext proposer ciphertext td p =
-    cond (isSome (td .ciphertext)) (ends (failed 25) td p)
-    (heard (askAbout p 9 proposer) td (λ a b q.
+    cond (isSome (td .ciphertext)) (ends (failed multipleInputs) td p)
+    (heard (askAbout p ciphertextVerifies proposer) td (λ a b q.
     cond (eqb a 0) (ends (going false) td q) (ends (going true) (withCiphertext td ciphertext) q)))
 
 -- true where the share of this sender is valid, or where there is no ciphertext yet to ask about it
 unfoldable pub isShareValid : ℕ → ThresholdDecrypt → Tape → Run ThresholdDecrypt Bool
 isShareValid sender td p =
     cond (eqb (td .ciphertext) 0) (ends (going true) td p)
-    (heard (askAbout p 10 sender) td (λ a b q. ends (going (not (eqb a 0))) td q))
+    (heard (askAbout p shareVerifies sender) td (λ a b q. ends (going (not (eqb a 0))) td q))
 
 -- the share of one sender, if there is one, is removed with fault 7 if it is invalid
 unfoldable pub checkShare : ℕ → ThresholdDecrypt → Tape → Run ThresholdDecrypt (Unit {0})
@@ -64,7 +65,7 @@ checkShare sender td p =
     cond (isSender td sender)
     (onward (isShareValid sender td p) (λ valid td q.
     cond (not valid)
-    (before (fault 7 sender 0 ∷ []) (ends (going tt) (withShares td (set (td .shares) sender 0)) q))
+    (before (fault unverifiedDecryptionShareSender sender 0 ∷ []) (ends (going tt) (withShares td (set (td .shares) sender 0)) q))
     (ends (going tt) td q)))
     (ends (going tt) td p)
 
@@ -75,11 +76,11 @@ removeFrom (suc n) i td p = onward (checkShare i td p) (λ _ td q. removeFrom n 
 
 -- "Shares before the ciphertext are stored unchecked, then checked in sender order."
 abbrev pub removeInvalidShares : ThresholdDecrypt → Tape → Run ThresholdDecrypt (Unit {0})
-removeInvalidShares td p = removeFrom 16 0 td p
+removeInvalidShares td p = removeFrom nodeLimit 0 td p
 
 -- the shares are combined; 24 `Decryption`
 unfoldable pub combine : ThresholdDecrypt → Tape → Run ThresholdDecrypt (Option ℕ)
-combine td p = heard (ask p 12) td (λ a b q. cond (eqb a 0) (ends (failed 24) td q) (ends (going (some b)) td q))
+combine td p = heard (ask p contributionDecrypted) td (λ a b q. cond (eqb a 0) (ends (failed decryption) td q) (ends (going (some b)) td q))
 
 -- "Starting decryption tries to combine, and combining first makes sure decryption has started." Each is given for any behaviour of the other
 module _ (net : NetworkInfo) (proposer : ℕ) where
@@ -87,15 +88,15 @@ module _ (net : NetworkInfo) (proposer : ℕ) where
   unfoldable pub ownShare : (ThresholdDecrypt → Tape → Run ThresholdDecrypt (Option ℕ)) → ThresholdDecrypt → Tape → Run ThresholdDecrypt (Option ℕ)
   ownShare try td p =
       cond (isValidator net && net .«has_key»)
-      (heard (ask p 11) td (λ a b q.
-      before (message 3 proposer b ∷ []) (try (withShares td (set (td .shares) (net .«our_id») b)) q)))
+      (heard (ask p ownDecryptionShare) td (λ a b q.
+      before (message shareContent proposer b ∷ []) (try (withShares td (set (td .shares) (net .«our_id») b)) q)))
       (try td p)
 
   -- without a ciphertext the Rust fails with `CiphertextIsNone`; no caller gets there (docs/DECISIONS.md)
   unfoldable pub startWith : (ThresholdDecrypt → Tape → Run ThresholdDecrypt (Option ℕ)) → ThresholdDecrypt → Tape → Run ThresholdDecrypt (Option ℕ)
   startWith try td p =
       cond (td .«had_input») (ends (going none) td p)
-      (cond (eqb (td .ciphertext) 0) (ends (failed 24) td p)
+      (cond (eqb (td .ciphertext) 0) (ends (failed decryption) td p)
       (onward (removeInvalidShares td p) (λ _ td q. ownShare try (withInput td) q)))
 
 -- "Combining wants a ciphertext and more than f shares."
@@ -118,7 +119,7 @@ module _ (net : NetworkInfo) (proposer : ℕ) where
   unfoldable pub storeShare : ℕ → ℕ → ThresholdDecrypt → Tape → Run ThresholdDecrypt (Option ℕ)
   storeShare sender share td p =
       cond (isSender td sender)
-      (before (fault 6 sender 0 ∷ []) (ends (going none) (withShares td (set (td .shares) sender share)) p))
+      (before (fault multipleDecryptionShares sender 0 ∷ []) (ends (going none) (withShares td (set (td .shares) sender share)) p))
       (tryOutput (withShares td (set (td .shares) sender share)) p)
 
   -- fault 7 where the share is invalid, and an earlier one of the sender stays
@@ -126,4 +127,4 @@ module _ (net : NetworkInfo) (proposer : ℕ) where
   handleMessage sender share td p =
       cond (td .terminated) (ends (going none) td p)
       (onward (isShareValid sender td p) (λ valid td q.
-      cond (not valid) (before (fault 7 sender 0 ∷ []) (ends (going none) td q)) (storeShare sender share td q)))
+      cond (not valid) (before (fault unverifiedDecryptionShareSender sender 0 ∷ []) (ends (going none) td q)) (storeShare sender share td q)))

@@ -3,6 +3,7 @@ use Prim.Native.Nat.{ℕ}
 use mathlib.Core.List.{List}
 use mathlib.Core.Bool.{Bool, true, false}
 use mathlib.Core.Option.{Option, none, some}
+use Rattle.steps.specs.Numbers.{decryption, multipleInputs}
 use Rattle.steps.specs.Answers.{Tape}
 use Rattle.steps.specs.declared.step.Step.{Step}
 use Rattle.steps.specs.Steps.{out}
@@ -24,7 +25,7 @@ use Rattle.decryption.specs.declared.Handled.{Handled}
 abbrev pub setVerdict : SetOutcome → Verdict Bool
 setVerdict Set = going true
 setVerdict NotSet = going false
-setVerdict MultipleInputs = failed 25
+setVerdict MultipleInputs = failed multipleInputs
 setVerdict NoneSet = refused
 
 abbrev pub validVerdict : Validity → Verdict Bool
@@ -41,7 +42,7 @@ abbrev pub verdict : Outcome → Verdict (Option ℕ)
 verdict Nothing = going none
 verdict (Plaintext h) = going (some h)
 verdict Refused = refused
-verdict Decryption = failed 24
+verdict Decryption = failed decryption
 
 -- `set_ciphertext` and `is_share_valid` write nothing, so that their runs have no entries
 abbrev pub leftSet : SetCiphertext → Tape → Run ThresholdDecrypt Bool

@@ -11,6 +11,13 @@ ghost use Rattle.steps.specs.Runs.{leaves};
 ghost use Rattle.decryption.specs.Outcomes.{leftSet, leftValid, leftChecked, left, handled};
 ghost use Rattle.decryption.specs.Decrypt.{new, isSender, countShares, setCiphertext, isShareValid, checkShare, removeInvalidShares, startDecryption, tryOutput, storeShare, handleMessage};
 use steps::network_info::NetworkInfo;
+use steps::numbers::CIPHERTEXT_VERIFIES;
+use steps::numbers::CONTRIBUTION_DECRYPTED;
+use steps::numbers::MULTIPLE_DECRYPTION_SHARES;
+use steps::numbers::OWN_DECRYPTION_SHARE;
+use steps::numbers::SHARE_CONTENT;
+use steps::numbers::SHARE_VERIFIES;
+use steps::numbers::UNVERIFIED_DECRYPTION_SHARE_SENDER;
 use steps::reader::Answer;
 use steps::step::Step;
 
@@ -123,7 +130,7 @@ impl ThresholdDecrypt {
                 outcome: SetOutcome::MultipleInputs,
             };
         }
-        match steps::reader::ask_about(answers, place, 9, proposer) {
+        match steps::reader::ask_about(answers, place, CIPHERTEXT_VERIFIES, proposer) {
             Answer::Got { a, b: _ } => {
                 if a == 0 {
                     return SetCiphertext {
@@ -153,7 +160,7 @@ impl ThresholdDecrypt {
         if self.ciphertext == 0 {
             return Validity::Valid;
         }
-        match steps::reader::ask_about(answers, place, 10, sender as u64) {
+        match steps::reader::ask_about(answers, place, SHARE_VERIFIES, sender as u64) {
             Answer::Got { a, b: _ } => {
                 if a == 0 {
                     return Validity::Invalid;
@@ -193,7 +200,12 @@ impl ThresholdDecrypt {
             },
             Validity::Invalid => {
                 td.shares[sender] = 0;
-                let faulted = step.fault(words, 7, sender as u64, 0);
+                let faulted = step.fault(
+                    words,
+                    UNVERIFIED_DECRYPTION_SHARE_SENDER,
+                    sender as u64,
+                    0,
+                );
                 Removed {
                     td,
                     outcome: Checked::Done,
@@ -281,9 +293,9 @@ impl ThresholdDecrypt {
         if !(net.is_validator() & net.has_key) {
             return td.try_output(net, proposer, answers, place, done, words);
         }
-        match steps::reader::ask(answers, place, 11) {
+        match steps::reader::ask(answers, place, OWN_DECRYPTION_SHARE) {
             Answer::Got { a: _, b } => {
-                let sent = done.message(words, 3, proposer, b);
+                let sent = done.message(words, SHARE_CONTENT, proposer, b);
                 let own = net.our_id;
                 td.shares[own] = b;
                 td.try_output(net, proposer, answers, place, sent, words)
@@ -325,7 +337,7 @@ impl ThresholdDecrypt {
         };
         let last = started.td;
         let done = started.step;
-        match steps::reader::ask(answers, place, 12) {
+        match steps::reader::ask(answers, place, CONTRIBUTION_DECRYPTED) {
             Answer::Got { a, b } => {
                 if a == 0 {
                     return last.handled(Outcome::Decryption, done);
@@ -356,7 +368,7 @@ impl ThresholdDecrypt {
         let old = td.shares[sender];
         td.shares[sender] = share;
         if old != 0 {
-            let faulted = step.fault(words, 6, sender as u64, 0);
+            let faulted = step.fault(words, MULTIPLE_DECRYPTION_SHARES, sender as u64, 0);
             return td.handled(Outcome::Nothing, faulted);
         }
         td.try_output(net, proposer, answers, place, step, words)
@@ -386,7 +398,12 @@ impl ThresholdDecrypt {
                 self.store_share(net, proposer, sender, share, answers, place, step, words)
             }
             Validity::Invalid => {
-                let faulted = step.fault(words, 7, sender as u64, 0);
+                let faulted = step.fault(
+                    words,
+                    UNVERIFIED_DECRYPTION_SHARE_SENDER,
+                    sender as u64,
+                    0,
+                );
                 self.handled(Outcome::Nothing, faulted)
             }
             Validity::Refused => self.handled(Outcome::Refused, step),
