@@ -142,14 +142,25 @@ def opened(names, own):
     return "\n".join(uses) + "\n\nunfoldable pub opened : Unit {0}\nunfolding " + " ".join(words) + "\nopened = tt\n"
 
 
+def computed(folder):
+    """The modules of specs/ that open all definitions to compute cases of them, and those that use such a module."""
+    texts = {file.stem: file.read_text() for file in folder.glob("*.antt") if file.stem != "Lib"}
+    found = {"Opened"} & texts.keys()
+    while True:
+        more = {name for name, text in texts.items() if any(re.search(rf"·specs\.specs\.{other}\b", text) for other in found)} - found
+        if not more:
+            return found
+        found |= more
+
+
 def make_repository(folder):
     for layer in LAYERS:
         source, made = ROOT / "crates" / layer, folder / "crates" / layer
         shutil.copytree(source / "specs", made / "specs")
-        for name in ("Cases", "Further", "Pair", "Opened"):  # computed of the definitions, and not a part of them
-            (made / "specs" / f"{name}.antt").unlink(missing_ok=True)
-        lib = made / "specs" / "Lib.antt"
-        lib.write_text("".join(line for line in lib.read_text().splitlines(True) if not re.match(r"pub mod (Cases|Further|Pair|Opened)$", line.strip())))
+        for name in computed(made / "specs"):
+            (made / "specs" / f"{name}.antt").unlink()
+            lib = made / "specs" / "Lib.antt"
+            lib.write_text(lib.read_text().replace(f"pub mod {name}\n", ""))
         for file in (source / "src").rglob("*.rt"):
             target = made / "src" / file.relative_to(source / "src")
             target.parent.mkdir(parents=True, exist_ok=True)
