@@ -8,6 +8,7 @@ use mathlib.Core.Option.{Option, none}
 use lib.ListN.{replicate}
 use Rattle.steps.specs.Steps.{Item, item}
 use Rattle.steps.specs.Taken.{asked, onesFrom}
+use Rattle.engine.specs.State.{stateLength, scratchLength}
 use Rattle.engine.specs.History.{Call, propose, message, skip, Event}
 use Rattle.engine.specs.Claim.{Made, turnsOf, historyOf}
 use Rattle.engine.specs.Rule.{netIn, decidedBefore7, speaks}
@@ -23,7 +24,7 @@ abbrev voteZero : ℕ → List Item
 voteZero p = item 7 1 p ∷ []
 
 abbrev saying : ℕ → ℕ → ℕ → List Item → Call
-saying content proposer thing xs = message 1 0 content proposer thing (replicate 80 9) (table xs) (replicate 64 9)
+saying content proposer thing xs = message 1 0 content proposer thing (replicate (scratchLength 4 0) 9) (table xs) (replicate 64 9)
 
 unfoldable pub observer : Made
 observer =
@@ -41,7 +42,7 @@ observer =
             first = 0;
             second = 0;
           };
-      words = replicate 80 9;
+      words = replicate (stateLength 4 0) 9;
       calls =
           saying 2 0 0 (built ++ decides 0)
           ∷ saying 2 1 0 (decides 1)
@@ -50,7 +51,7 @@ observer =
           ∷ saying 2 0 0 (voteZero 3)
           -- a share; an observer's propose; and, after a skip, a late message
           ∷ saying 3 0 5 []
-          ∷ propose (replicate 80 9) (table []) (replicate 64 9)
+          ∷ propose (replicate (scratchLength 4 0) 9) (table []) (replicate 64 9)
           ∷ skip 1
           ∷ saying 1 3 0 []
           ∷ [];
