@@ -2,7 +2,7 @@
 -- share; in a batch its record and N entries. Assumes nothing.
 use Prim.Native.Nat.{ℕ, zero, suc, _+_, _*_, _≤_}
 use mathlib.Core.List.{List, [], _∷_, _++_}
-use mathlib.Core.Bool.{Bool, true, false, cond, _&&_, not}
+use mathlib.Core.Bool.{Bool, true, false, cond}
 use mathlib.Core.Option.{Option}
 use native.Mathlib.Omega.{arith}
 use lib.ListN.{length, getD}
@@ -21,7 +21,8 @@ use Rattle.subset.proofs.Bounded.{Writes, propose-writes as propose-subset, han
 use Rattle.epoch.specs.declared.SubsetHandlingStrategy.{SubsetHandlingStrategy}
 use Rattle.epoch.specs.declared.MessageContent.{MessageContent}
 use Rattle.epoch.specs.declared.MessageContent.the-variants.{Subset, DecryptionShare}
-use Rattle.epoch.specs.Words.{isComplete, isAccepted, DecryptionState, missing, ongoing, complete, loadDecryption, asks, decryptionAt, plaintextIn}
+use Rattle.epoch.specs.Words.{isComplete, isAccepted, DecryptionState, missing, ongoing, complete, loadDecryption, plaintextIn}
+use Rattle.epoch.proofs.Shares.{by-entry, by-share}
 use Rattle.epoch.specs.Epoch.{firstContributions, unexpectedFrom, unexpectedShares, handlesNow, processDecryption, callEntry, inputCiphertext, sendDecryptionShare, handleDecryptionShare, finishAt, finishFrom, handleContribution, handleFrom, handleContributions, processSubset, handedUp, callSubset, propose, handleMessageContent}
 use Rattle.epoch.specs.Batch.{isRead, readAt, readFrom, entriesFrom, outputBatchIn, outputBatch}
 
@@ -96,9 +97,7 @@ module _ (net : NetworkInfo) where
       bounded-wider (more + 0) more tape _ (omega arith) (bounded-then more 0 tape _ _ (record { short = h .short }) (λ _ _. bounded-ends))
 
   entry-writes : (more p : ℕ) (call : ThresholdDecrypt → Tape → Run ThresholdDecrypt (Option ℕ)) → Calls more call → Writes more (callEntry net p call)
-  unfolding callEntry
-  entry-writes more p call h w tape =
-      bounded-cond (asks (getD w (decryptionAt (net .«num_nodes») p) 0)) more tape _ _ (process-writes more p w tape _ (h _ tape)) bounded-ends
+  entry-writes more p call h w tape = by-entry net p w tape (Bounded more tape) call (process-writes more p w tape _ (h _ tape)) bounded-ends
 
   -- fault 4 follows an answer, of which `setCiphertext` tells no more: it is counted to the answer 8 that came before
   input-writes : (p value : ℕ) → Calls 1 (inputCiphertext net p value)
@@ -114,11 +113,8 @@ module _ (net : NetworkInfo) where
       bounded-cond (eqb a 0) 1 q _ _ (bounded-one _ 0 q _ bounded-ends) (entry-writes 1 p _ (input-writes p value) w q))
 
   share-message-writes : (sender p share : ℕ) → Writes 1 (handleDecryptionShare net sender p share)
-  unfolding handleDecryptionShare
   share-message-writes sender p share w tape =
-      bounded-cond (isComplete w && not (isAccepted w p)) 1 tape _ _
-      (bounded-one _ 0 tape _ bounded-ends)
-      (entry-writes 1 p _ (share-writes net p sender share) w tape)
+      by-share net p w tape (Bounded 1 tape) sender share (bounded-one _ 0 tape _ bounded-ends) (entry-writes 1 p _ (share-writes net p sender share) w tape)
 
   module _ (strategy : SubsetHandlingStrategy) (encrypted : Bool) where
     contribution-writes : (p value : ℕ) → Writes 0 (handleContribution net strategy encrypted p value)
