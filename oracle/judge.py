@@ -18,6 +18,9 @@ import tempfile
 from pathlib import Path
 
 ROOT = Path(__file__).resolve().parent.parent
+sys.path.insert(0, str(ROOT / "tools"))
+import quick  # noqa: E402
+
 ORACLE = ROOT / "oracle" / "target" / "release" / "oracle"
 LAYERS = {"steps": "", "decryption": "steps", "subset": "steps", "epoch": "decryption steps subset",
           "engine": "decryption epoch steps subset"}
@@ -112,14 +115,6 @@ firstBad i w (r ∷ rs) = elim (agrees w r (after w (r .op))) [ true ↦ firstBa
 """
 
 
-def types_only(text):
-    """The declared types of a source file, without its functions."""
-    found = re.findall(r"^(?:#\[[^\n]*\]\n)?pub (?:struct|enum) \w+ \{.*?^\}", text, re.S | re.M)
-    uses = [line for line in text.split("\n") if re.match(r"(pub )?(use|mod) ", line)]
-    kept = [line for line in uses if line.startswith("pub mod") or any(re.search(rf"\b{line.rstrip(';').split('::')[-1]}\b", item) for item in found)]
-    return "\n".join(kept) + "\n\n" + "\n\n".join(found) + "\n"
-
-
 def unfoldable(folder):
     """Every name that is `unfoldable` in the definitions below this folder, by module."""
     names = {}
@@ -161,15 +156,9 @@ def make_repository(folder):
             (made / "specs" / f"{name}.antt").unlink()
             lib = made / "specs" / "Lib.antt"
             lib.write_text(lib.read_text().replace(f"pub mod {name}\n", ""))
-        for file in (source / "src").rglob("*.rt"):
-            target = made / "src" / file.relative_to(source / "src")
-            target.parent.mkdir(parents=True, exist_ok=True)
-            target.write_text(types_only(file.read_text()))
-        steps_lib = made / "src" / "lib.rt"
-        if layer == "steps":  # a module without types has nothing to declare
-            for name in ("answers", "numbers"):
-                (made / "src" / f"{name}.rt").unlink(missing_ok=True)
-                steps_lib.write_text("".join(line for line in steps_lib.read_text().splitlines(True) if line != f"pub mod {name};\n"))
+        (made / "src").mkdir(parents=True)
+        for name, text in quick.sources(source).items():
+            (made / "src" / name).write_text(text)
     judged = folder / "crates" / "judged"
     (judged / "src").mkdir(parents=True)
     (judged / "src" / "lib.rt").write_text("// Nothing: the definitions are in specs/.\n")
