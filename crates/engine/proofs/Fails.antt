@@ -18,7 +18,7 @@ use Rattle.decryption.specs.declared.ThresholdDecrypt.{ThresholdDecrypt}
 use Rattle.decryption.specs.Decrypt.{isSome, isSender, countShares, setCiphertext, isShareValid, checkShare, removeFrom, ownShare, startWith, combine, tryWith, startDecryption, tryOutput, storeShare, handleMessage as handleShare}
 use Rattle.subset.specs.declared.ProposalState.{ProposalState}
 use Rattle.subset.specs.Words.{isDecided, loadProposal}
-use Rattle.subset.specs.Proposal.{Moved, asksAgreement, asksBroadcast, afterBroadcast, instanceAnswer, answerAgreement, voteTrue, afterValue, answerBroadcast}
+use Rattle.subset.specs.Proposal.{Moved, asksAgreement, asksBroadcast, afterBroadcast, instanceAnswer, handleAgreement, voteTrue, afterValue, handleBroadcast}
 use Rattle.subset.specs.Subset.{countAccepted, allComplete, atProposal, broadcastAt, agreementAt, voteFrom, votes, tryOutput as trySubset, propose as proposeSubset, handleMessage as handleSubset}
 use Rattle.epoch.specs.declared.SubsetHandlingStrategy.{SubsetHandlingStrategy}
 use Rattle.epoch.specs.declared.MessageContent.{MessageContent}
@@ -142,8 +142,8 @@ module _ (ok : ℕ → Bool) (error : ℕ) (ok-error : ok error ≡ true) where
     unfolding instanceAnswer
     only-answer kind content s p = only-heard _ _ (λ a b q. only-cond (eqb a 0) (record { fails = ok-error }) (record { fails = tt }))
 
-    only-agreement : (kind : ℕ) (s : ProposalState) (p : Tape) → Only ok (answerAgreement error proposer kind s p)
-    unfolding answerAgreement
+    only-agreement : (kind : ℕ) (s : ProposalState) (p : Tape) → Only ok (handleAgreement error proposer kind s p)
+    unfolding handleAgreement
     only-agreement kind s p =
         only-onward _ (only-answer kind _ s p) (λ out s q. record { fails = tt })
 
@@ -156,8 +156,8 @@ module _ (ok : ℕ → Bool) (error : ℕ) (ok-error : ok error ≡ true) where
     only-value s Missing p = record { fails = tt }
     only-value s (Value v) p = only-vote-true (afterBroadcast s (Value v)) p
 
-    only-broadcast : (kind : ℕ) (s : ProposalState) (p : Tape) → Only ok (answerBroadcast error proposer kind s p)
-    unfolding answerBroadcast
+    only-broadcast : (kind : ℕ) (s : ProposalState) (p : Tape) → Only ok (handleBroadcast error proposer kind s p)
+    unfolding handleBroadcast
     only-broadcast kind s p =
         only-onward _ (only-answer kind _ s p) (λ out s q. only-value s out q)
 

@@ -13,5 +13,4 @@ pub mod Finished
 pub mod ReadBack
 pub mod Read13
 pub mod Ranges
-pub mod BitLaws
 pub mod Bounded
