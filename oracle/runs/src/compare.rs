@@ -98,8 +98,7 @@ impl Beside<'_> {
         let extra = random.below(4) as usize;
         let mut step = Lent::rubbish(4 * records as usize + extra, random);
 
-        let reply =
-            engine::call(call, state.words(), scratch.words(), table.words(), step.words());
+        let reply = engine::call(call, state.words(), scratch.words(), table.words(), step.words());
         let wanted = both.oracle.call(call, records, answers)?;
         same("reply", reply, wanted.reply)?;
         step.check("step", &wanted.step)?;

@@ -1,5 +1,7 @@
 //! The original as oracle: see `README.md`.
 
+#[cfg(feature = "engine")]
+mod asker;
 mod chooser;
 mod command;
 #[cfg(feature = "engine")]
@@ -11,6 +13,8 @@ mod document;
 #[cfg(feature = "engine")]
 mod engine;
 mod generate;
+#[cfg(feature = "engine")]
+mod groups;
 mod guide;
 #[cfg(feature = "engine")]
 mod lent;
@@ -21,9 +25,13 @@ mod random;
 mod ranges;
 mod raw;
 mod record;
+#[cfg(feature = "engine")]
+mod rounds;
 mod state;
 mod table;
 mod tree;
+#[cfg(feature = "engine")]
+mod world;
 
 use std::error::Error;
 use std::io::{self, Write};
@@ -36,7 +44,8 @@ const USAGE: &str = "usage: oracle command
        oracle count FILE...
        oracle pairs FILE...
 with the engine (see build.sh):
-       oracle compare CLASS SEED RUNS CALLS";
+       oracle compare CLASS SEED RUNS CALLS
+       oracle groups SEED EPOCHS";
 
 fn main() {
     // Panics of the original are caught and reported with the call; ours are to be seen.
@@ -68,6 +77,8 @@ fn start(args: &[&str]) -> Result<(), Box<dyn Error>> {
         ["generate", class, seed, runs, calls, form] => generate([class, seed, runs, calls], form),
         #[cfg(feature = "engine")]
         ["compare", class, seed, runs, calls] => compare([class, seed, runs, calls]),
+        #[cfg(feature = "engine")]
+        ["groups", seed, epochs] => Ok(rounds::run(seed.parse()?, epochs.parse()?)?),
         ["replay", "--no-state", files @ ..] => replay(files, false),
         ["replay", files @ ..] => replay(files, true),
         ["text", file] => Ok(print!("{}", record::text(&record::read(file)?)?)),
