@@ -1,5 +1,5 @@
 // The text that the test programs read and write: lines of decimal numbers.
-ghost use Prim.Native.Nat.{_≤_, _<_};
+ghost use Prim.Native.Nat.{_+_, _≤_, _<_};
 ghost use lib.ListN.{length};
 use libc::STDOUT_FILENO;
 
@@ -25,10 +25,13 @@ fn digit(b: u8) -> u64
     (b - b'0') as u64
 }
 
-// A number with one more digit. One that would not fit in a word stays.
+// A number with one more digit, or, at 10, with none. One that would not fit in a word stays.
 fn with_digit(value: u64, digit: u64) -> u64
     requires { ⌜ digit ≤ 10 ⌝ }
 {
+    if digit == 10 {
+        return value;
+    }
     if (18_446_744_073_709_551_615 - digit) / 10 < value {
         return value;
     }
@@ -37,8 +40,8 @@ fn with_digit(value: u64, digit: u64) -> u64
 
 // How many numbers have ended, where n had before a byte that is this digit or, at 10, none.
 fn ended(n: usize, inside: bool, digit: u64) -> usize
-    requires { ⌜ n < 256 ⌝ }
-    ensures { λ r. ⌜ r ≤ 256 ⌝ }
+    requires { ⌜ n < 18446744073709551615 ⌝ }
+    ensures { λ r. ⌜ r ≤ n + 1 ⌝ }
 {
     if inside & (digit == 10) {
         return n + 1;
@@ -46,26 +49,31 @@ fn ended(n: usize, inside: bool, digit: u64) -> usize
     n
 }
 
-// The numbers of a line that ends with a newline, into words that are 0; answers how many there are, at most 256.
-pub fn numbers(line: &[u8], words: &mut [u64; 256]) -> usize
-    ensures { λ r. ⌜ r ≤ 256 ⌝ }
+// The numbers of a line that ends with a newline, into words that are 0; answers how many there are, at most as many as the words.
+pub fn numbers_in(line: &[u8], words: &mut [u64]) -> usize
+    ensures { λ r. ⌜ r ≤ length (now (words .entry)) ⌝ }
 {
     let mut n: usize = 0;
     let mut inside = false;
     let mut i: usize = 0;
     while i < line.len() {
-        if n == 256 {
+        if n == words.len() {
             return n;
         }
         let d = digit(line[i]);
-        if d < 10 {
-            words[n] = with_digit(words[n], d);
-        }
+        words[n] = with_digit(words[n], d);
         n = ended(n, inside, d);
         inside = d < 10;
         i += 1;
     }
     n
+}
+
+// The numbers of a line, at most 256.
+pub fn numbers(line: &[u8], words: &mut [u64; 256]) -> usize
+    ensures { λ r. ⌜ r ≤ 256 ⌝ }
+{
+    numbers_in(line, &mut words[..])
 }
 
 // Where the line that begins here ends: past its newline.

@@ -13,35 +13,35 @@ Inv-loop text from i₀ i = (from ≤ i) × (i ≤ length text)
 abbrev μ-loop : tie.MeasureT-loop
 μ-loop text from i₀ i = length text - i
 
--- src/lib.rt:77:5
+-- src/lib.rt:85:5
 loop-holds : tie.Need-loop-holds Inv-loop μ-loop
 loop-holds c = search needs
 
--- src/lib.rt:78:12
+-- src/lib.rt:86:12
 shared-slice-read-if1 : tie.Need-shared-slice-read-if1 Inv-loop μ-loop
 shared-slice-read-if1 c = search needs
 
--- src/lib.rt:79:20
+-- src/lib.rt:87:20
 add-result : tie.Need-add-result Inv-loop μ-loop
 add-result c = search needs
 
--- src/lib.rt:79:13
+-- src/lib.rt:87:13
 returns : tie.Need-returns Inv-loop μ-loop
 returns c = search needs
 
--- src/lib.rt:81:9
+-- src/lib.rt:89:9
 add-i : tie.Need-add-i Inv-loop μ-loop
 add-i c = search needs
 
--- src/lib.rt:77:5
+-- src/lib.rt:85:5
 loop-less : tie.Need-loop-less Inv-loop μ-loop
 loop-less c = search needs
 
--- src/lib.rt:77:5
+-- src/lib.rt:85:5
 loop-again : tie.Need-loop-again Inv-loop μ-loop
 loop-again c = search needs
 
--- src/lib.rt:72:1
+-- src/lib.rt:80:1
 returns-2 : tie.Need-returns-2 Inv-loop μ-loop
 returns-2 c = search needs
 
