@@ -25,10 +25,10 @@ use Rattle.epoch.specs.Epoch.{newEpoch}
 use Rattle.epoch.specs.Batch.{isReady, outputBatch}
 use Rattle.epoch.proofs.Bounded.{batch-writes, propose-writes, content-writes}
 use Rattle.subset.proofs.Bounded.{Writes}
-use Rattle.engine.specs.State.{headerLength, headerTests, nodesAt, aheadAt, epochAt, inputAt, nodes, ahead, currentEpoch, netOf, placeOf, epochWords, withEpoch, withoutEpoch, stateOk}
+use Rattle.state.specs.State.{headerLength, headerTests, nodesAt, aheadAt, epochAt, inputAt, nodes, ahead, currentEpoch, netOf, placeOf, epochWords, withEpoch, withoutEpoch, stateOk}
 use Rattle.engine.specs.HoneyBadger.{updateEpoch, epochStateMut, inEpoch, tryOutputBatches, propose, handleMessage}
-use Rattle.engine.proofs.Window.{header-first}
-use Rattle.engine.proofs.RangesState.{test, header-ok, shaped}
+use Rattle.state.proofs.Window.{header-first}
+use Rattle.state.proofs.RangesState.{test, header-ok, shaped}
 
 -- WHAT BOUNDS A CALL: the header is there, with at most 16 nodes and a look-ahead of at most 15. Nothing that a run writes alters it
 pub record Sized (w : List ℕ) : Type 0 where

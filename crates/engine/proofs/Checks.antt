@@ -9,7 +9,7 @@ use borrow.Author.Tests.{eqb-false, ltb-false, leb-false, not-true, not-false}
 use Rattle.steps.specs.Numbers.{lastEpoch}
 use Rattle.steps.specs.Answers.{tapeOf}
 use Rattle.steps.specs.Table.{tableOk}
-use Rattle.engine.specs.State.{nodes, currentEpoch, scratchOf, stateOk}
+use Rattle.state.specs.State.{nodes, currentEpoch, scratchOf, stateOk}
 use Rattle.engine.specs.HoneyBadger.{propose, handleMessage}
 use Rattle.engine.specs.Calls.{After, after, zeroed, conclude, proposeAfter, contentOk, itemOk, contentOf, messageCall}
 

@@ -10,10 +10,11 @@ use lib.ListN.{set, take, drop, replicate, length-take}
 use lib.Seq.{getD-set-other, take-set-lt, drop-set-lt, set-append-left, set-set, set-comm}
 use borrow.Author.Tests.{lt-leb, lt-ltb, le-ltb, leb-true, leb-false}
 use Rattle.subset.specs.Words.{epochLength}
-use Rattle.engine.specs.State.{headerLength, nodesAt, aheadAt, epochAt, inputAt, nodes, ahead, currentEpoch, placeOf, epochWords, withEpoch, withoutEpoch, stateOk}
+use Rattle.state.specs.State.{headerLength, nodesAt, aheadAt, epochAt, inputAt, nodes, ahead, currentEpoch, placeOf, epochWords, withEpoch, withoutEpoch, stateOk}
 use Rattle.engine.specs.HoneyBadger.{updateEpoch, clearBelow, skipToEpoch}
-use Rattle.engine.proofs.Window.{Shaped, header-first, place-is, place-in, set-shaped, without-shaped, update-shaped, update-current, update-kept}
-use Rattle.engine.proofs.RangesState.{shaped}
+use Rattle.state.proofs.Window.{Shaped, header-first, place-is, place-in, set-shaped, without-shaped}
+use Rattle.engine.proofs.Updates.{update-shaped, update-current, update-kept}
+use Rattle.state.proofs.RangesState.{shaped}
 use Rattle.engine.proofs.Skips.{step-shaped, skip-stays}
 
 -- a word of the header behind the look-ahead moves no place

@@ -18,7 +18,7 @@ use Rattle.decryption.specs.declared.ThresholdDecrypt.{ThresholdDecrypt}
 use Rattle.decryption.specs.Decrypt.{isSome, isSender, countShares, setCiphertext, isShareValid, checkShare, removeFrom, ownShare, startWith, combine, tryWith, startDecryption, tryOutput, storeShare, handleMessage as handleShare}
 use Rattle.subset.specs.declared.ProposalState.{ProposalState}
 use Rattle.subset.specs.Words.{isDecided, loadProposal}
-use Rattle.subset.specs.Proposal.{Moved, asksAgreement, asksBroadcast, afterBroadcast, instanceAnswer, handleAgreement, voteTrue, afterValue, handleBroadcast}
+use Rattle.subset.specs.Proposal.{Moved, asksAgreement, asksBroadcast, afterBroadcast, instanceAnswer, answerAgreement, voteTrue, afterValue, answerBroadcast}
 use Rattle.subset.specs.Subset.{countAccepted, allComplete, atProposal, broadcastAt, agreementAt, voteFrom, votes, tryOutput as trySubset, propose as proposeSubset, handleMessage as handleSubset}
 use Rattle.epoch.specs.declared.SubsetHandlingStrategy.{SubsetHandlingStrategy}
 use Rattle.epoch.specs.declared.MessageContent.{MessageContent}
@@ -28,7 +28,7 @@ use Rattle.epoch.specs.Words.{isVacant, isComplete, isAccepted}
 use Rattle.epoch.specs.Epoch.{handlesNow, processDecryption, callEntry, inputCiphertext, sendDecryptionShare, handleDecryptionShare, finishAt, finishFrom, handleContribution, handleFrom, handleContributions, processSubset, handedUp, callSubset, propose as proposeEpoch, handleMessageContent}
 use Rattle.epoch.specs.Batch.{isReady, isRead, readAt, readFrom, outputBatchIn, outputBatch}
 use Rattle.epoch.proofs.Shares.{by-entry, by-share}
-use Rattle.engine.specs.State.{nodes, ahead, currentEpoch, netOf, epochWords}
+use Rattle.state.specs.State.{nodes, ahead, currentEpoch, netOf, epochWords}
 use Rattle.engine.specs.HoneyBadger.{updateEpoch, epochStateMut, inEpoch, tryOutputBatches, propose, handleMessage}
 
 -- the number of a failure is one of those that are meant
@@ -142,8 +142,8 @@ module _ (ok : ℕ → Bool) (error : ℕ) (ok-error : ok error ≡ true) where
     unfolding instanceAnswer
     only-answer kind content s p = only-heard _ _ (λ a b q. only-cond (eqb a 0) (record { fails = ok-error }) (record { fails = tt }))
 
-    only-agreement : (kind : ℕ) (s : ProposalState) (p : Tape) → Only ok (handleAgreement error proposer kind s p)
-    unfolding handleAgreement
+    only-agreement : (kind : ℕ) (s : ProposalState) (p : Tape) → Only ok (answerAgreement error proposer kind s p)
+    unfolding answerAgreement
     only-agreement kind s p =
         only-onward _ (only-answer kind _ s p) (λ out s q. record { fails = tt })
 
@@ -156,8 +156,8 @@ module _ (ok : ℕ → Bool) (error : ℕ) (ok-error : ok error ≡ true) where
     only-value s Missing p = record { fails = tt }
     only-value s (Value v) p = only-vote-true (afterBroadcast s (Value v)) p
 
-    only-broadcast : (kind : ℕ) (s : ProposalState) (p : Tape) → Only ok (handleBroadcast error proposer kind s p)
-    unfolding handleBroadcast
+    only-broadcast : (kind : ℕ) (s : ProposalState) (p : Tape) → Only ok (answerBroadcast error proposer kind s p)
+    unfolding answerBroadcast
     only-broadcast kind s p =
         only-onward _ (only-answer kind _ s p) (λ out s q. only-value s out q)
 

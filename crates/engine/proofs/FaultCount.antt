@@ -12,11 +12,11 @@ use Rattle.steps.specs.Numbers.{lastEpoch, faultLimit}
 use Rattle.steps.specs.Answers.{tapeOf}
 use Rattle.steps.specs.Steps.{Entry, faults}
 use Rattle.steps.specs.Runs.{Verdict, going, refused, failed, numberOf, Run}
-use Rattle.engine.specs.State.{nodes, ahead, faultCount, faultsAt, stateOk}
+use Rattle.state.specs.State.{nodes, ahead, faultCount, faultsAt, stateOk}
 use Rattle.engine.specs.HoneyBadger.{propose, handleMessage, skipToEpoch}
 use Rattle.engine.specs.Calls.{After, countFaults, isEnd, concludeAs, conclude, proposeAfter, contentOf, messageCall, skipReply, skipState}
-use Rattle.engine.proofs.Window.{Shaped, header-first}
-use Rattle.engine.proofs.RangesState.{shaped}
+use Rattle.state.proofs.Window.{Shaped, header-first}
+use Rattle.state.proofs.RangesState.{shaped}
 use Rattle.engine.proofs.Skips.{skip-head}
 use Rattle.engine.proofs.Checks.{by-branch, by-propose, by-message}
 use Rattle.engine.proofs.Works.{propose-counts, message-counts}

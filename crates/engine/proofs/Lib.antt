@@ -1,14 +1,9 @@
--- What is proved of the definitions.
-pub mod Bools
+-- What is proved of the definitions, for this crate's proofs and for those above it.
+pub mod Updates
 pub mod Fails
 pub mod Checks
 pub mod Refusals
-pub mod Schedules
-pub mod Places
-pub mod Created
 pub mod Skips
-pub mod RangesState
-pub mod Ranges
 pub mod Clearing
 pub mod Looping
 pub mod Works
@@ -16,23 +11,5 @@ pub mod Settled
 pub mod FaultCount
 pub mod WorkRanges
 pub mod WorkLeaves
-pub mod Window
-pub mod OneBatch
-pub mod Shown
-pub mod Handout
-pub mod Alike
-pub mod Invariant
-pub mod OneCall
-pub mod Passes
-pub mod OneRun
-pub mod TwoRuns
-pub mod Agreement
-pub mod Entries
-pub mod Eights
-pub mod Rule
-pub mod Tests
-pub mod Pair
-pub mod Worked
-pub mod SecondPair
 pub mod Bounded
 pub mod Received

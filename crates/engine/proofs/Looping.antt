@@ -8,13 +8,14 @@ use lib.Dec.{eqb}
 use Rattle.steps.specs.Answers.{Tape, askAbout}
 use Rattle.steps.specs.Runs.{Verdict, going, refused, failed, Run, ends, before, onwardAs, onward, inside}
 use Rattle.epoch.specs.Batch.{isRead, outputBatchIn, isReady, readAt, readFrom, outputBatch}
-use Rattle.engine.specs.State.{nodes, ahead, currentEpoch, epochWords, withEpoch, stateOk}
+use Rattle.state.specs.State.{nodes, ahead, currentEpoch, epochWords, withEpoch, stateOk}
 use Rattle.engine.specs.HoneyBadger.{updateEpoch, inEpoch, tryOutputBatches, skipToEpoch}
 use Rattle.engine.specs.Work.{batchesFrom}
 use Rattle.engine.proofs.Fails.{Only, only-onward, only-batch}
 use Rattle.engine.proofs.Skips.{skip-stays}
-use Rattle.engine.proofs.Window.{Shaped, with-own, update-shaped, update-current, update-kept}
-use Rattle.engine.proofs.RangesState.{shaped}
+use Rattle.state.proofs.Window.{Shaped, with-own}
+use Rattle.engine.proofs.Updates.{update-shaped, update-current, update-kept}
+use Rattle.state.proofs.RangesState.{shaped}
 use Rattle.engine.proofs.Clearing.{skip-update}
 use Rattle.subset.specs.Words.{recordLength}
 use Rattle.steps.proofs.RunLaws.{same-heard, same-cond, same-onward}

@@ -10,9 +10,9 @@ use Rattle.subset.specs.Words.{acceptedAt}
 use Rattle.subset.proofs.Ranges.{limit-own}
 use Rattle.epoch.specs.Orders.{receivedBits}
 use Rattle.epoch.proofs.Orders.{received-word}
-use Rattle.engine.specs.State.{nodes, currentEpoch, epochWords, stateOk}
+use Rattle.state.specs.State.{nodes, currentEpoch, epochWords, stateOk}
 use Rattle.engine.specs.HoneyBadger.{receivedProposals}
-use Rattle.engine.proofs.RangesState.{words-in-range}
+use Rattle.state.proofs.RangesState.{words-in-range}
 
 pub received-ones : (w : List ℕ) → stateOk w ≡ true → receivedProposals w ≡ ones (receivedBits (nodes w) (epochWords w (currentEpoch w)))
 unfolding receivedProposals

@@ -11,15 +11,15 @@ use borrow.Author.Tests.{eqb-true, lt-leb, ne-eqb}
 use Rattle.steps.specs.Numbers.{lastEpoch}
 use Rattle.steps.specs.Answers.{tapeOf}
 use Rattle.steps.specs.Runs.{Verdict, going, refused, failed, numberOf, Run}
-use Rattle.engine.specs.State.{nodes, currentEpoch, faultCount, scratchLength, scratchOf, stateLength, stateOk}
+use Rattle.state.specs.State.{nodes, currentEpoch, faultCount, scratchLength, scratchOf, stateLength, stateOk}
 use Rattle.engine.specs.HoneyBadger.{hasInput, receivedProposals}
 use Rattle.engine.specs.Calls.{After, after, zeroed, isEnd, concludeAs, conclude, proposeAfter, proposeCall, messageCall, skipReply, skipState, queryReply, currentEpochResult, hasInputResult, receivedProposalsResult, faultCountResult}
 use Rattle.engine.specs.Create.{Numbers, numbersOk, createReply, createState}
 use Rattle.engine.specs.Laws.{isRefusal, oneOf, proposeFailures, proposeReplies, messageFailures, messageReplies, Promised}
-use Rattle.engine.proofs.Bools.{never}
+use Rattle.state.proofs.Bools.{never}
 use Rattle.engine.proofs.Fails.{Meant, Only, only-propose, only-message}
 use Rattle.engine.proofs.Checks.{by-branch, by-propose, by-message}
-use Rattle.engine.proofs.RangesState.{shaped}
+use Rattle.state.proofs.RangesState.{shaped}
 
 -- numbers of a list
 more : (y : ℕ) (ys : List ℕ) (x : ℕ) → oneOf ys x ≡ true → oneOf (y ∷ ys) x ≡ true

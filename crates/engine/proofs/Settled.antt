@@ -14,11 +14,11 @@ use Rattle.steps.specs.Answers.{Tape}
 use Rattle.steps.specs.Steps.{fault, faults}
 use Rattle.steps.specs.Runs.{going, Run, ends, before, inside}
 use Rattle.epoch.specs.declared.MessageContent.{MessageContent}
-use Rattle.engine.specs.State.{ahead, currentEpoch, faultCount, inputAt, faultsAt, netOf, stateOk}
+use Rattle.state.specs.State.{ahead, currentEpoch, faultCount, inputAt, faultsAt, netOf, stateOk}
 use Rattle.engine.specs.HoneyBadger.{propose, handleMessage}
 use Rattle.engine.specs.Calls.{countFaults, conclude}
 use Rattle.engine.specs.Work.{proposeWork, messageWork, committed, settled}
-use Rattle.engine.proofs.RangesState.{header-ok}
+use Rattle.state.proofs.RangesState.{header-ok}
 use Rattle.engine.proofs.Works.{propose-apart, message-apart}
 
 -- the runs that `proposeAfter` and `messageCall` conclude

@@ -11,13 +11,13 @@ use lib.ListN.{getD, set, replicate, length-set}
 use lib.Seq.{getD-set-same, getD-set-other}
 use borrow.Author.Tests.{eqb-true, eqb-false, le-leb, lt-leb, ltb-true, lt-ltb}
 use Rattle.subset.specs.Words.{epochLength}
-use Rattle.engine.specs.State.{headerLength, nodes, ahead, currentEpoch, epochAt, inputAt, epochWords, withoutEpoch, stateOk}
+use Rattle.state.specs.State.{headerLength, nodes, ahead, currentEpoch, epochAt, inputAt, epochWords, withoutEpoch, stateOk}
 use Rattle.engine.specs.HoneyBadger.{clearBelow, skipToEpoch}
 use Rattle.engine.specs.Calls.{skipReply, skipState}
 use Rattle.engine.specs.Laws.{Skipped}
 use Rattle.rings.proofs.Places.{same-place}
-use Rattle.engine.proofs.Window.{Shaped, header-first, set-shaped, set-words, without-shaped, without-head, without-place, without-other}
-use Rattle.engine.proofs.RangesState.{shaped}
+use Rattle.state.proofs.Window.{Shaped, header-first, set-shaped, set-words, without-shaped, without-head, without-place, without-other}
+use Rattle.state.proofs.RangesState.{shaped}
 
 -- CLEARING epochs below the target, one and many
 module _ (n f target : ℕ) where

@@ -10,7 +10,7 @@ use Rattle.steps.specs.Runs.{going, Run, Left, ends, inside, leaves}
 use Rattle.steps.proofs.Runs.{onward-go, onward-stop}
 use Rattle.steps.proofs.RunLaws.{placed, leaves-inside}
 use Rattle.epoch.specs.Batch.{isReady, outputBatch}
-use Rattle.engine.specs.State.{nodes, ahead, currentEpoch, epochWords}
+use Rattle.state.specs.State.{nodes, ahead, currentEpoch, epochWords}
 use Rattle.engine.specs.Work.{epochCall, batchesFrom, Worked, worked, beside, workIn}
 use Rattle.engine.proofs.Looping.{batches-ready, batches-over}
 

@@ -12,9 +12,9 @@ use Rattle.epoch.specs.declared.MessageContent.{MessageContent}
 use Rattle.epoch.specs.Words.{isVacant}
 use Rattle.epoch.specs.Epoch.{propose as proposeInEpoch, handleMessageContent}
 use Rattle.epoch.proofs.Ranges.{ContentOk, new-epoch-ok, propose-safe, content-safe}
-use Rattle.engine.specs.State.{nodes, netOf, strategyOf, encryptedIn, epochWords, stateOk}
+use Rattle.state.specs.State.{nodes, netOf, strategyOf, encryptedIn, epochWords, stateOk}
 use Rattle.engine.specs.Work.{built, epochCall, beside}
-use Rattle.engine.proofs.RangesState.{header-ok, words-in-range}
+use Rattle.state.proofs.RangesState.{header-ok, words-in-range}
 
 -- an epoch is built in range, and its call keeps it there
 pub call-safe : (n : ℕ) → 0 < n → (body : List ℕ → Tape → Run (List ℕ) (Unit {0})) → SafeEpoch n body → SafeEpoch n (epochCall n body)

@@ -24,12 +24,12 @@ use Rattle.epoch.specs.declared.SubsetHandlingStrategy.{SubsetHandlingStrategy}
 use Rattle.epoch.specs.declared.MessageContent.{MessageContent}
 use Rattle.epoch.specs.Epoch.{newEpoch, propose as proposeInEpoch, handleMessageContent}
 use Rattle.epoch.proofs.Writes.{keeps-propose, keeps-message}
-use Rattle.engine.specs.State.{epochAt, inputAt, faultsAt, faultCount, nodes, ahead, currentEpoch, netOf, strategyOf, encryptedIn, epochWords, withEpoch, stateOk}
+use Rattle.state.specs.State.{epochAt, inputAt, faultsAt, faultCount, nodes, ahead, currentEpoch, netOf, strategyOf, encryptedIn, epochWords, withEpoch, stateOk}
 use Rattle.engine.specs.HoneyBadger.{epochStateMut, inEpoch, outputBatches, propose, handleMessage}
 use Rattle.engine.specs.Work.{built, epochCall, batchesFrom, Worked, worked, beside, workIn, proposeWork, messageWork, committed}
 use Rattle.rings.proofs.Places.{same-place}
-use Rattle.engine.proofs.Window.{Shaped, with-own, net-same, strategy-same, encrypted-same, words-long, with-head, with-shaped, with-twice, with-same, with-other, set-shaped, set-words}
-use Rattle.engine.proofs.RangesState.{shaped}
+use Rattle.state.proofs.Window.{Shaped, with-own, net-same, strategy-same, encrypted-same, words-long, with-head, with-shaped, with-twice, with-same, with-other, set-shaped, set-words}
+use Rattle.state.proofs.RangesState.{shaped}
 use Rattle.engine.proofs.Skips.{skip-stays, skip-head, skipped}
 use Rattle.engine.proofs.Looping.{batches-apart, batches-never-fail}
 

@@ -8,7 +8,7 @@ use lib.ListN.{length, getD, set, replicate}
 use Rattle.steps.specs.Steps.{Item, item, chainWords, firstAt}
 use Rattle.engine.specs.Calls.{proposeCall, messageCall, skipReply, skipState, queryReply, currentEpochResult, hasInputResult, receivedProposalsResult, faultCountResult}
 use Rattle.engine.specs.Create.{Numbers, createReply, createState}
-use Rattle.engine.specs.State.{encryptedIn}
+use Rattle.state.specs.State.{encryptedIn}
 use Rattle.engine.specs.Opened.{opened}
 
 -- THE TABLE'S LANGUAGE. An operation of the interface, with the words that the host lends

@@ -6,8 +6,8 @@ use lib.ListN.{length, replicate}
 use lib.Dec.{eqb, leb, ltb}
 use Rattle.steps.specs.Numbers.{success, numbersOutOfRange, wrongStateLength, lastEpoch, nodeLimit, aheadLimit}
 use Rattle.steps.specs.Table.{within}
-use Rattle.engine.specs.Schedule.{scheduleOk, usedFirst, usedSecond}
-use Rattle.engine.specs.State.{stateLength, allHold}
+use Rattle.state.specs.Schedule.{scheduleOk, usedFirst, usedSecond}
+use Rattle.state.specs.State.{stateLength, allHold}
 
 -- the ten numbers, in the order of the interface
 pub record Numbers : Type 0 where

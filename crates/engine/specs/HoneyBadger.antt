@@ -13,7 +13,7 @@ use Rattle.epoch.specs.declared.MessageContent.{MessageContent}
 use Rattle.epoch.specs.Words.{isVacant}
 use Rattle.epoch.specs.Epoch.{newEpoch, receivedProposals as receivedInEpoch, propose as proposeInEpoch, handleMessageContent}
 use Rattle.epoch.specs.Batch.{isReady, outputBatch}
-use Rattle.engine.specs.State.{nodes, ahead, currentEpoch, input, epochAt, inputAt, netOf, strategyOf, encryptedIn, epochWords, withEpoch, withoutEpoch}
+use Rattle.state.specs.State.{nodes, ahead, currentEpoch, input, epochAt, inputAt, netOf, strategyOf, encryptedIn, epochWords, withEpoch, withoutEpoch}
 
 -- `update_epoch`: the finished epoch is cleared
 unfoldable pub updateEpoch : List ℕ → List ℕ

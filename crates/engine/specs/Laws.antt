@@ -9,7 +9,7 @@ use lib.Dec.{eqb}
 use Rattle.steps.specs.Numbers.{success, notAState, scratchTooShort, answersMalformed, epochTooHigh, messageMalformed, answerNotNext, answersUnread, stepTableTooShort, unknownSender, createSubset, proposeBincode, inputSubset, handleSubsetMessage, decryption, multipleInputs}
 use Rattle.steps.specs.Table.{within}
 use Rattle.subset.specs.Words.{epochLength}
-use Rattle.engine.specs.State.{headerLength, nodes, ahead, currentEpoch, input, scratchOf, epochAt, inputAt, epochWords}
+use Rattle.state.specs.State.{headerLength, nodes, ahead, currentEpoch, input, scratchOf, epochAt, inputAt, epochWords}
 use Rattle.engine.specs.Calls.{After, zeroed}
 
 -- "1 to 12 turn a call down"

@@ -1,17 +1,8 @@
-pub mod Schedule
-pub mod State
 pub mod HoneyBadger
 pub mod Calls
 pub mod Work
 pub mod Create
 pub mod Laws
-pub mod History
-pub mod Claim
-pub mod Outputs
-pub mod Rule
 pub mod Opened
 pub mod Cases
 pub mod Further
-pub mod Pair
-pub mod PairRule
-pub mod SecondPair

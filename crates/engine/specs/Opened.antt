@@ -1,19 +1,12 @@
 -- The definitions that a closed term computes with: a line `unfolding opened` opens them all.
-use Rattle.epoch.specs.Opened as EpochOpened
-use Rattle.engine.specs.Schedule
-use Rattle.engine.specs.State
+use Rattle.state.specs.Opened as StateOpened
 use Rattle.engine.specs.HoneyBadger
 use Rattle.engine.specs.Calls
 use Rattle.engine.specs.Work
 use Rattle.engine.specs.Create
-use Rattle.engine.specs.History
-use Rattle.engine.specs.Outputs
 
 unfoldable pub opened : Unit {0}
-unfolding EpochOpened.opened
-    Schedule.scheduleOf Schedule.useOnEpoch Schedule.scheduleOk Schedule.usedFirst Schedule.usedSecond
-    State.netOf State.strategyOf State.encryptedIn State.placeOf State.epochWords State.withEpoch State.withoutEpoch
-    State.epochsAt State.scratchLength State.allHold State.headerTests State.epochsInRange State.stateOk
+unfolding StateOpened.opened
     HoneyBadger.updateEpoch HoneyBadger.epochStateMut HoneyBadger.inEpoch HoneyBadger.tryOutputBatches
     HoneyBadger.propose HoneyBadger.handleMessage HoneyBadger.clearBelow HoneyBadger.skipToEpoch HoneyBadger.hasInput
     HoneyBadger.receivedProposals
@@ -22,10 +15,4 @@ unfolding EpochOpened.opened
     Calls.hasInputResult Calls.receivedProposalsResult Calls.faultCountResult
     Work.built Work.epochCall Work.batchesFrom Work.beside Work.workIn Work.proposeWork Work.messageWork Work.committed
     Create.numberTests Create.created Create.createReply Create.createState
-    History.turnOf History.stateAfter History.turns History.noneFails History.eventsOf History.currentAfter
-    History.history History.taken History.decrypted History.plaintext History.namesFrom History.countOpen
-    History.wantedIn History.dealt History.handedOf History.namesOf History.thirteensOf History.unreadableIn
-    History.proposersIn History.unreadableOf History.readingOf History.valueOf History.readingsAt History.readingsIn
-    History.readingsOf13 History.readingsOfBatches History.readingsOfCalls
-    Outputs.pairsIn Outputs.pairsRead Outputs.pairsGiven Outputs.plaintextOf Outputs.timesAskedIn Outputs.isHandled
 opened = tt

@@ -11,7 +11,7 @@ use Rattle.epoch.specs.declared.MessageContent.{MessageContent}
 use Rattle.epoch.specs.Words.{isVacant}
 use Rattle.epoch.specs.Epoch.{newEpoch, propose as proposeInEpoch, handleMessageContent}
 use Rattle.epoch.specs.Batch.{isReady, outputBatch}
-use Rattle.engine.specs.State.{nodes, ahead, currentEpoch, netOf, strategyOf, encryptedIn, epochWords, withEpoch}
+use Rattle.state.specs.State.{nodes, ahead, currentEpoch, netOf, strategyOf, encryptedIn, epochWords, withEpoch}
 use Rattle.engine.specs.HoneyBadger.{skipToEpoch}
 use Rattle.engine.specs.Calls.{After, conclude}
 

@@ -1,4 +1,10 @@
 -- What is proved of the definitions, for this crate's proofs and for those above it.
+pub mod Storing
+pub mod Calling
+pub mod Dropping
+pub mod Handling
+pub mod Listing
+pub mod Reaching
 pub mod Writes
 pub mod RangesWords
 pub mod Ranges
@@ -17,4 +23,6 @@ pub mod Eights
 pub mod Batches
 pub mod Bounded
 pub mod Orders
+pub mod BatchCode
+pub mod RangeCode
 pub mod Lists

@@ -18,6 +18,7 @@ use Rattle.steps.specs.declared.network_info.NetworkInfo.{NetworkInfo}
 use Rattle.steps.specs.Answers.{Rec, Tape, tape, askFor, askAbout}
 use Rattle.steps.specs.Steps.{Entry, fault}
 use Rattle.steps.specs.Runs.{Verdict, going, refused, failed, Run, ends, before, onwardAs, onward, heardAs, heard, inside}
+use Rattle.steps.proofs.BitLaws.{with-below}
 use Rattle.steps.specs.Bits.{countBits}
 use Rattle.steps.proofs.Runs.{onward-at}
 use Rattle.decryption.specs.declared.ThresholdDecrypt.{ThresholdDecrypt}
@@ -35,7 +36,6 @@ use Rattle.epoch.specs.Epoch.{receivedProposals, unexpectedFrom, unexpec
 use Rattle.epoch.specs.Batch.{decryptedFrom, isReadyIn, isReady, isRead, readAt, readFrom}
 use Rattle.subset.specs.Rule.{Contribution, contributionsFrom}
 use Rattle.epoch.specs.Orders.{receivedBits, isUnexpected, bySender, byProposer, handleEach}
-use Rattle.epoch.proofs.RangesWords.{with-below}
 use Rattle.epoch.proofs.Entries.{accept-word, accept-same, entry-tag, store-size, places, store-word, store-subset}
 use Rattle.epoch.proofs.Texts.{after-about}
 use Rattle.epoch.proofs.Shares.{by-entry}

@@ -29,7 +29,7 @@ use Rattle.decryption.specs.Decrypt.{isSender, withInput, withEnd, countShares,
 use Rattle.decryption.proofs.Cycle.{Does}
 use Rattle.subset.specs.declared.ProposalState.{ProposalState}
 use Rattle.subset.specs.Words.{decidedAt, isDecided, acceptedAt, statusAt, countAt, recordAt, proposalAt, valueAt, arrivalAt, loadProposal, storeProposal, addContribution}
-use Rattle.subset.specs.Proposal.{asksAgreement, asksBroadcast, afterBroadcast, instanceAnswer, handleAgreement, voteTrue, afterValue, handleBroadcast}
+use Rattle.subset.specs.Proposal.{asksAgreement, asksBroadcast, afterBroadcast, instanceAnswer, answerAgreement, voteTrue, afterValue, answerBroadcast}
 use Rattle.subset.specs.Subset.{allComplete, countAccepted, contributed, atProposal, broadcastAt, agreementAt, voteFrom, votes, tryOutput, propose as proposeSubset, handleMessage as handleSubset}
 use Rattle.subset.proofs.Frames.{differ, store-word}
 use Rattle.epoch.specs.declared.SubsetHandlingStrategy.{SubsetHandlingStrategy}
@@ -172,8 +172,8 @@ module _ (error proposer : ℕ) where
   answer-runs kind content e s p =
       orderly-about p kind proposer s _ e tt (λ a b q. orderly-cond (eqb a 0) _ _ (orderly-ends tt) (orderly-parts subsetKinds parts-kinds content proposer s q tt))
 
-  agreement-runs : (kind : ℕ) → subsetKinds kind ≡ true → (s : ProposalState) (p : Tape) → Orderly Any subsetKinds p (handleAgreement error proposer kind s p)
-  unfolding handleAgreement
+  agreement-runs : (kind : ℕ) → subsetKinds kind ≡ true → (s : ProposalState) (p : Tape) → Orderly Any subsetKinds p (answerAgreement error proposer kind s p)
+  unfolding answerAgreement
   agreement-runs kind e s p =
       orderly-onward _ _ (answer-runs kind _ e s p) (λ out s q _. orderly-ends tt)
 
@@ -183,8 +183,8 @@ module _ (error proposer : ℕ) where
   value-runs s (Value v) p =
       orderly-cond (asksAgreement (afterBroadcast s (Value v) .state)) _ _ (agreement-runs 6 refl _ p) (orderly-ends tt)
 
-  broadcast-runs : (kind : ℕ) → subsetKinds kind ≡ true → (s : ProposalState) (p : Tape) → Orderly Any subsetKinds p (handleBroadcast error proposer kind s p)
-  unfolding handleBroadcast
+  broadcast-runs : (kind : ℕ) → subsetKinds kind ≡ true → (s : ProposalState) (p : Tape) → Orderly Any subsetKinds p (answerBroadcast error proposer kind s p)
+  unfolding answerBroadcast
   broadcast-runs kind e s p =
       orderly-onward _ _ (answer-runs kind _ e s p) (λ out s q _. value-runs s out q)
 

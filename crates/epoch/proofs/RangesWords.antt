@@ -1,48 +1,24 @@
 -- The range rule of an epoch's words says that each word is below the limit of its place, and what is stored there keeps it. Assumes nothing.
-use Prim.Native.Nat.{ℕ, zero, suc, _+_, _*_, _/_, _-_, _%_, _^_, _≤_, _<_}
+use Prim.Native.Nat.{ℕ, zero, suc, _+_, _/_, _-_, _%_, _^_, _≤_, _<_}
 use mathlib.Core.Path.{_≡_, refl, ap, _∙_}
 use mathlib.Core.List.{List, [], _∷_, _++_}
 use mathlib.Core.Bool.{Bool, true, false, cond, _&&_}
 use native.Mathlib.Omega.{arith}
-use native.Mathlib.Nat.{div-add-mod, div-add-mod', mod-lt, div-lt-iff-lt-mul, mul-le-mul-right, two-pow-succ, zero-add}
+use native.Mathlib.Nat.{div-add-mod', mod-lt, div-lt-iff-lt-mul, zero-add}
 use lib.ListN.{length, getD, replicate, length-append, length-replicate, List·getD-eq-default}
-use lib.Pow.{pow-add}
 use lib.Dec.{leb, ltb, eqb}
-use borrow.Author.Tests.{eqb-true, eqb-false, leb-true, ltb-true, ltb-false, eq-eqb, le-leb, lt-ltb}
-use Rattle.steps.specs.Bits.{hasBit, withBit}
+use borrow.Author.Tests.{eqb-true, leb-true, ltb-true, ltb-false, eq-eqb, le-leb, lt-ltb}
+use Rattle.steps.proofs.BitLaws.{with-below}
 use Rattle.steps.proofs.Laws.{and-true}
 use Rattle.steps.proofs.Ranges.{and-both, Below, zeros-at}
 use Rattle.decryption.specs.declared.ThresholdDecrypt.{ThresholdDecrypt}
 use Rattle.decryption.specs.Decrypt.{new}
 use Rattle.decryption.proofs.Ranges.{handles, InstanceOk, new-ok}
 use Rattle.subset.specs.Words.{recordLength, epochLength, statusAt, decidedAt, acceptedAt, acceptedOf, countOf, statusOf, statusComplete, recordAt, proposalAt}
-use Rattle.subset.proofs.Ranges.{ownLimit, fieldLimit, limitAt, limit-own, limit-field, limit-share, limit-some, two-some, EpochOk, set-field, set-own, field-below}
+use Rattle.subset.proofs.Ranges.{ownLimit, fieldLimit, limitAt, limit-own, limit-field, limit-share, limit-some, EpochOk, set-field, set-own, field-below}
 use Rattle.epoch.specs.declared.SubsetHandlingStrategy.{SubsetHandlingStrategy}
 use Rattle.epoch.specs.declared.SubsetHandlingStrategy.the-variants.{Incremental, AllAtEnd}
 use Rattle.epoch.specs.Words.{accept, DecryptionState, missing, ongoing, complete, decryptionAt, hadInputAt, terminatedAt, shareAt, sharesFrom, entryNone, loadInstance, loadEntry, setShares, flag, storeEntry, storeDecryption, maybeHandle, allFrom, recordInRange, recordsInRange, mostKept, epochInRange}
-
--- THE ACCEPTED PROPOSERS. A bit below n leaves the word below 2^n
-module _ (n x i : ℕ) (l : i < n) (h : x < 2 ^ n) where
-  bit-below : hasBit x i ≡ false → x + 2 ^ i < 2 ^ n
-  unfolding hasBit
-  bit-below e =
-      let k : n ≡ suc (n - suc i) + i = omega arith in
-      let q : 2 ^ n ≡ (2 ^ (n - suc i) + 2 ^ (n - suc i)) * 2 ^ i = ap (λ m. 2 ^ m) k ∙ pow-add 2 (suc (n - suc i)) i ∙ rw (two-pow-succ (n - suc i)) in
-      go (2 ^ (n - suc i)) (2 ^ i) (two-some i) q (eqb-false (x / 2 ^ i % 2) 1 e)
-    where
-      go : (a b : ℕ) → 0 < b → 2 ^ n ≡ (a + a) * b → (x / b % 2 ≡ 1 → ⊥) → x + b < 2 ^ n
-      go a b s q z =
-          let d : x / b < a + a = div-lt-iff-lt-mul s .1 (omega arith) in
-          let k : x / b + 2 ≤ a + a = omega arith in
-          omega (arith, mul-le-mul-right b k, div-add-mod x b, mod-lt x s)
-
-  pub with-below : withBit x i < 2 ^ n
-  unfolding withBit
-  with-below = go (hasBit x i) refl
-    where
-      go : (y : Bool) → hasBit x i ≡ y → cond y x (x + 2 ^ i) < 2 ^ n
-      go true e = h
-      go false e = bit-below e
 
 -- AN ENTRY's words
 unfoldable pub EntryOk : DecryptionState → Type 0

@@ -1,4 +1,12 @@
 // One epoch, after honey_badger/epoch_state.rs, batch.rs and message.rs.
+pub mod batch;
+pub mod entry;
+pub mod epoch_state;
+pub mod range;
+pub mod received;
+pub mod tags;
+pub mod words;
+
 use steps::reader::Content;
 
 // When the contributions that the subset hands up are handled: as they come, or all at the end.

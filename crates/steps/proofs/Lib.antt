@@ -13,4 +13,5 @@ pub mod Finished
 pub mod ReadBack
 pub mod Read13
 pub mod Ranges
+pub mod BitLaws
 pub mod Bounded

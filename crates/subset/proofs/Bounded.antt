@@ -16,7 +16,7 @@ use Rattle.steps.specs.Runs.{Run}
 use Rattle.steps.proofs.Bounded.{Bounded, bounded-ends, bounded-wider, bounded-cond, bounded-about, bounded-onward, bounded-inside, bounded-parts}
 use Rattle.subset.specs.declared.ProposalState.{ProposalState}
 use Rattle.subset.specs.Words.{isDecided, loadProposal, storeProposal}
-use Rattle.subset.specs.Proposal.{asksAgreement, asksBroadcast, afterBroadcast, instanceAnswer, handleAgreement, voteTrue, afterValue, handleBroadcast}
+use Rattle.subset.specs.Proposal.{asksAgreement, asksBroadcast, afterBroadcast, instanceAnswer, answerAgreement, voteTrue, afterValue, answerBroadcast}
 use Rattle.subset.specs.Subset.{allComplete, countAccepted, atProposal, broadcastAt, agreementAt, voteFrom, votes, tryOutput, propose, handleMessage}
 
 -- A PROPOSAL
@@ -27,8 +27,8 @@ module _ (error proposer : ℕ) where
       bounded-about 0 p kind proposer s _ (λ a b q.
       bounded-cond (eqb a 0) 1 q _ _ bounded-ends (bounded-wider 0 1 q _ (omega arith) (bounded-parts content proposer s q)))
 
-  agreement-writes : (kind : ℕ) (s : ProposalState) (p : Tape) → Bounded 0 p (handleAgreement error proposer kind s p)
-  unfolding handleAgreement
+  agreement-writes : (kind : ℕ) (s : ProposalState) (p : Tape) → Bounded 0 p (answerAgreement error proposer kind s p)
+  unfolding answerAgreement
   agreement-writes kind s p =
       bounded-onward 0 p _ _ (answer-writes kind _ s p) (λ out s q. bounded-ends)
 
@@ -37,8 +37,8 @@ module _ (error proposer : ℕ) where
   value-writes s Missing p = bounded-ends
   value-writes s (Value v) p = bounded-cond (asksAgreement (afterBroadcast s (Value v) .state)) 0 p _ _ (agreement-writes 6 _ p) bounded-ends
 
-  broadcast-writes : (kind : ℕ) (s : ProposalState) (p : Tape) → Bounded 0 p (handleBroadcast error proposer kind s p)
-  unfolding handleBroadcast
+  broadcast-writes : (kind : ℕ) (s : ProposalState) (p : Tape) → Bounded 0 p (answerBroadcast error proposer kind s p)
+  unfolding answerBroadcast
   broadcast-writes kind s p =
       bounded-onward 0 p _ _ (answer-writes kind _ s p) (λ out s q. value-writes s out q)
 

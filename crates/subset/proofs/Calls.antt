@@ -21,7 +21,7 @@ use Rattle.steps.specs.Runs.{going, Run, ends, inside, onward}
 use Rattle.steps.proofs.Chains.{Good, Instance, bit-or, low-no-part, no-part, kind3, kind4, kind5, kind7}
 use Rattle.subset.specs.declared.ProposalState.{ProposalState}
 use Rattle.subset.specs.Words.{decidedAt, countAt, proposalAt, valueAt, arrivalAt, loadProposal, storeProposal}
-use Rattle.subset.specs.Proposal.{asksAgreement, asksBroadcast, instanceAnswer, handleAgreement, handleBroadcast}
+use Rattle.subset.specs.Proposal.{asksAgreement, asksBroadcast, instanceAnswer, answerAgreement, answerBroadcast}
 use Rattle.subset.specs.Subset.{allComplete, contributed, atProposal, broadcastAt, agreementAt, voteFrom, votes, tryOutput, propose, handleMessage}
 use Rattle.subset.specs.Rule.{settledFrom, isOver, SubsetCall, proposing, broadcasting, agreeing, callSubset, speaks}
 use Rattle.subset.proofs.After.{After, after-map, after-onward, after-inside}
@@ -232,13 +232,13 @@ module _ (old : ℕ → Bool) where
     at-ok p w r Q h = after-onward (inside (storeProposal n w p) r) _ _ (after-inside (storeProposal n w p) r _ h)
 
     module _ (p : ℕ) (w : List ℕ) (v d : ℕ → Option ℕ) (h : Held old n w v d) (u : Tape) (g : Good n (u .rest)) where
-      broadcast-far : (k : ℕ) → Instance k → n ≤ p → (s : ProposalState) → asksBroadcast s ≡ true → (Q : Option ℕ → ProposalState → Tape → Type 0) → After (handleBroadcast error p k s u) Q
-      unfolding handleBroadcast
+      broadcast-far : (k : ℕ) → Instance k → n ≤ p → (s : ProposalState) → asksBroadcast s ≡ true → (Q : Option ℕ → ProposalState → Tape → Type 0) → After (answerBroadcast error p k s u) Q
+      unfolding answerBroadcast
       broadcast-far k i l s e Q =
           after-onward (instanceAnswer error p k Broadcast s u) _ Q (after-map (instanceAnswer error p k Broadcast s u) _ _ (instance-ok n error p k Broadcast i s u g) (λ out t z x. absurd (omega (arith, x .1 .named))))
 
-      agreement-far : (k : ℕ) → Instance k → n ≤ p → (s : ProposalState) → asksAgreement s ≡ true → (Q : Option ℕ → ProposalState → Tape → Type 0) → After (handleAgreement error p k s u) Q
-      unfolding handleAgreement
+      agreement-far : (k : ℕ) → Instance k → n ≤ p → (s : ProposalState) → asksAgreement s ≡ true → (Q : Option ℕ → ProposalState → Tape → Type 0) → After (answerAgreement error p k s u) Q
+      unfolding answerAgreement
       agreement-far k i l s e Q =
           after-onward (instanceAnswer error p k Agreement s u) _ Q (after-map (instanceAnswer error p k Agreement s u) _ _ (instance-ok n error p k Agreement i s u g) (λ out t z x. absurd (omega (arith, x .1 .named))))
 
@@ -246,18 +246,18 @@ module _ (old : ℕ → Bool) where
       unfolding broadcastAt
       broadcast-at k i = go (asksBroadcast (loadProposal n w p)) refl
         where
-          asking : asksBroadcast (loadProposal n w p) ≡ true → (x : Bool) → ltb p n ≡ x → After (atProposal net error p w (handleBroadcast error p k (loadProposal n w p) u)) (λ _ w′ z. Begun n v d w (u .rest) w′ (z .rest))
+          asking : asksBroadcast (loadProposal n w p) ≡ true → (x : Bool) → ltb p n ≡ x → After (atProposal net error p w (answerBroadcast error p k (loadProposal n w p) u)) (λ _ w′ z. Begun n v d w (u .rest) w′ (z .rest))
           asking a true x =
               let l = h .load p (ltb-true p n x) in
               let b : asksBroadcast (stateOf (v p) (d p)) ≡ true = rw l at a in
               rw l
-              (at-ok p w (handleBroadcast error p k (stateOf (v p) (d p)) u) (λ w′ z. Begun n v d w (u .rest) w′ (z .rest))
-              (after-map (handleBroadcast error p k (stateOf (v p) (d p)) u) _ _ (broadcast-ok n error p k i (v p) (d p) b u g)
+              (at-ok p w (answerBroadcast error p k (stateOf (v p) (d p)) u) (λ w′ z. Begun n v d w (u .rest) w′ (z .rest))
+              (after-map (answerBroadcast error p k (stateOf (v p) (d p)) u) _ _ (broadcast-ok n error p k i (v p) (d p) b u g)
               (λ o s z t. begun-went n p v d w (u .rest) o s (z .rest) h (broadcast-silent (v p) (d p) b) t)))
-          asking a false x = at-ok p w (handleBroadcast error p k (loadProposal n w p) u) _ (broadcast-far k (i .kind) (ltb-false p n x) (loadProposal n w p) a _)
+          asking a false x = at-ok p w (answerBroadcast error p k (loadProposal n w p) u) _ (broadcast-far k (i .kind) (ltb-false p n x) (loadProposal n w p) a _)
 
           go : (x : Bool) → asksBroadcast (loadProposal n w p) ≡ x
-              → After (cond x (atProposal net error p w (handleBroadcast error p k (loadProposal n w p) u)) (ends (going tt) w u)) (λ _ w′ z. Begun n v d w (u .rest) w′ (z .rest))
+              → After (cond x (atProposal net error p w (answerBroadcast error p k (loadProposal n w p) u)) (ends (going tt) w u)) (λ _ w′ z. Begun n v d w (u .rest) w′ (z .rest))
           go true a = asking a (ltb p n) refl
           go false a = begun-still n v d w (u .rest) h g
 
@@ -271,17 +271,17 @@ module _ (old : ℕ → Bool) where
       unfolding agreementAt
       agreement-at = go (asksAgreement (loadProposal n w p)) refl
         where
-          asking : asksAgreement (loadProposal n w p) ≡ true → (x : Bool) → ltb p n ≡ x → After (atProposal net error p w (handleAgreement error p 5 (loadProposal n w p) u)) (λ _ w′ z. Begun n v d w (u .rest) w′ (z .rest))
+          asking : asksAgreement (loadProposal n w p) ≡ true → (x : Bool) → ltb p n ≡ x → After (atProposal net error p w (answerAgreement error p 5 (loadProposal n w p) u)) (λ _ w′ z. Begun n v d w (u .rest) w′ (z .rest))
           asking a true x =
               let l = agreement-load (ltb-true p n x) a in
               rw (l .1)
-              (at-ok p w (handleAgreement error p 5 (stateOf (v p) none) u) (λ w′ z. Begun n v d w (u .rest) w′ (z .rest))
-              (after-map (handleAgreement error p 5 (stateOf (v p) none) u) _ _ (agreement-ok n error p 5 kind5 (v p) u g)
+              (at-ok p w (answerAgreement error p 5 (stateOf (v p) none) u) (λ w′ z. Begun n v d w (u .rest) w′ (z .rest))
+              (after-map (answerAgreement error p 5 (stateOf (v p) none) u) _ _ (agreement-ok n error p 5 kind5 (v p) u g)
               (λ o s z t. begun-went n p v d w (u .rest) o s (z .rest) h (rw (l .0) (undecided-silent (v p))) (rw (l .0) (went-agreed n p (v p) (u .rest) o s (z .rest) t)))))
-          asking a false x = at-ok p w (handleAgreement error p 5 (loadProposal n w p) u) _ (agreement-far 5 kind5 (ltb-false p n x) (loadProposal n w p) a _)
+          asking a false x = at-ok p w (answerAgreement error p 5 (loadProposal n w p) u) _ (agreement-far 5 kind5 (ltb-false p n x) (loadProposal n w p) a _)
 
           go : (x : Bool) → asksAgreement (loadProposal n w p) ≡ x
-              → After (cond x (atProposal net error p w (handleAgreement error p 5 (loadProposal n w p) u)) (ends (going tt) w u)) (λ _ w′ z. Begun n v d w (u .rest) w′ (z .rest))
+              → After (cond x (atProposal net error p w (answerAgreement error p 5 (loadProposal n w p) u)) (ends (going tt) w u)) (λ _ w′ z. Begun n v d w (u .rest) w′ (z .rest))
           go true a = asking a (ltb p n) refl
           go false a = begun-still n v d w (u .rest) h g
 
@@ -290,12 +290,12 @@ module _ (old : ℕ → Bool) where
       vote-at inside = go (asksAgreement (loadProposal n w p)) refl
         where
           go : (x : Bool) → asksAgreement (loadProposal n w p) ≡ x
-              → After (cond x (atProposal net error p w (handleAgreement error p 7 (loadProposal n w p) u)) (ends (going tt) w u)) (λ _ w′ z. One n p v d w (u .rest) w′ (z .rest))
+              → After (cond x (atProposal net error p w (answerAgreement error p 7 (loadProposal n w p) u)) (ends (going tt) w u)) (λ _ w′ z. One n p v d w (u .rest) w′ (z .rest))
           go true a =
               let l = agreement-load inside a in
               rw (l .1)
-              (at-ok p w (handleAgreement error p 7 (stateOf (v p) none) u) (λ w′ z. One n p v d w (u .rest) w′ (z .rest))
-              (after-map (handleAgreement error p 7 (stateOf (v p) none) u) _ _ (agreement-ok n error p 7 kind7 (v p) u g)
+              (at-ok p w (answerAgreement error p 7 (stateOf (v p) none) u) (λ w′ z. One n p v d w (u .rest) w′ (z .rest))
+              (after-map (answerAgreement error p 7 (stateOf (v p) none) u) _ _ (agreement-ok n error p 7 kind7 (v p) u g)
               (λ o s z t. one-agreed n p v d w (u .rest) o s (z .rest) h (l .0) t)))
           go false a = record {
             d′ = d;

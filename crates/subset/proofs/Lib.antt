@@ -12,3 +12,6 @@ pub mod Ranges
 pub mod Votes
 pub mod Bounded
 pub mod Bits
+pub mod Moves
+pub mod Stores
+pub mod Rounds

@@ -22,7 +22,7 @@ use Rattle.steps.proofs.Laws.{and-true}
 use Rattle.steps.proofs.Chains.{orElse-none, Good, optionOf, parts-output, parts-rest, NoPart, apart, Bit, Instance, kind6, Heard, heard-answer}
 use Rattle.subset.specs.declared.ProposalState.{ProposalState}
 use Rattle.subset.specs.declared.ProposalState.the-variants.{Ongoing, HasValue, Accepted, Complete}
-use Rattle.subset.specs.Proposal.{moved, afterAgreement, afterBroadcast, asksAgreement, asksBroadcast, instanceAnswer, handleAgreement, voteTrue, afterValue, handleBroadcast}
+use Rattle.subset.specs.Proposal.{moved, afterAgreement, afterBroadcast, asksAgreement, asksBroadcast, instanceAnswer, answerAgreement, voteTrue, afterValue, answerBroadcast}
 use Rattle.subset.proofs.After.{After, after-map, after-onward}
 
 -- the state of a proposal whose value and decision taken so far are these
@@ -88,8 +88,8 @@ agree-move (some v) (Value zero) = refl
 agree-move (some v) (Value (suc d)) = rw (ne-eqb (suc d) 0 (λ e. omega arith))
 
 pub agreement-ok : (n error p k : ℕ) → Instance k → (v : Option ℕ) (u : Tape) → Good n (u .rest)
-    → After (handleAgreement error p k (stateOf v none) u) (λ o s z. Agreed n k p v (u .rest) o s (z .rest))
-unfolding handleAgreement
+    → After (answerAgreement error p k (stateOf v none) u) (λ o s z. Agreed n k p v (u .rest) o s (z .rest))
+unfolding answerAgreement
 agreement-ok n error p k i v u g =
     after-onward (instanceAnswer error p k Agreement (stateOf v none) u) _ _
     (after-map (instanceAnswer error p k Agreement (stateOf v none) u) _ _ (instance-ok n error p k Agreement i (stateOf v none) u g) (λ out t z h.
@@ -217,7 +217,7 @@ module _ (n error p k : ℕ) (i : Broadcasts k) where
   unfolding afterValue afterBroadcast voteTrue asksAgreement optionOf isThere
   ongoing-ok Missing ws z h = quiet none none ws (z .rest) (there-zero none refl) h refl
   ongoing-ok (Value x) ws z h =
-      after-map (handleAgreement error p 6 (HasValue x) z) _ _ (agreement-ok n error p 6 kind6 (some x) z (h .good)) (λ o s y a. voted x ws (z .rest) (y .rest) o s h a)
+      after-map (answerAgreement error p 6 (HasValue x) z) _ _ (agreement-ok n error p 6 kind6 (some x) z (h .good)) (λ o s y a. voted x ws (z .rest) (y .rest) o s h a)
 
   accepted-ok : (d : ℕ) (out : Output) (ws : List Rec) (z : Tape) → Heard n k p ws (optionOf out) (z .rest) → After (afterValue error p Accepted out z) (λ o s y. Went n p none (some (suc d)) ws o s (y .rest))
   unfolding afterValue afterBroadcast voteTrue asksAgreement optionOf isThere
@@ -225,8 +225,8 @@ module _ (n error p k : ℕ) (i : Broadcasts k) where
   accepted-ok d (Value y) ws z h = quiet (some (suc d)) (some y) ws (z .rest) (one-zero d (some (suc d)) refl) h refl
 
   pub broadcast-ok : (v d : Option ℕ) → asksBroadcast (stateOf v d) ≡ true → (u : Tape) → Good n (u .rest)
-      → After (handleBroadcast error p k (stateOf v d) u) (λ o s z. Went n p v d (u .rest) o s (z .rest))
-  unfolding handleBroadcast asksBroadcast
+      → After (answerBroadcast error p k (stateOf v d) u) (λ o s z. Went n p v d (u .rest) o s (z .rest))
+  unfolding answerBroadcast asksBroadcast
   broadcast-ok none none e u g =
       after-onward (instanceAnswer error p k Broadcast Ongoing u) _ _
       (after-map (instanceAnswer error p k Broadcast Ongoing u) _ _ (instance-ok n error p k Broadcast (i .kind) Ongoing u g) (λ out t z h.

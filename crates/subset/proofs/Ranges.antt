@@ -21,7 +21,7 @@ use Rattle.steps.proofs.Ranges.{AllSmall, Kept, Any, SmallOption, SmallOutput, 
 use Rattle.subset.specs.declared.ProposalState.{ProposalState}
 use Rattle.subset.specs.declared.ProposalState.the-variants.{Ongoing, HasValue, Accepted, Complete}
 use Rattle.subset.specs.Words.{recordLength, epochLength, decidedAt, countAt, isDecided, recordAt, valueAt, arrivalAt, proposalOf, tagOf, valueOf, loadProposal, storeProposal, addContribution, dropFrom}
-use Rattle.subset.specs.Proposal.{asksAgreement, asksBroadcast, Moved, afterAgreement, afterBroadcast, movedTo, instanceAnswer, handleAgreement, voteTrue, afterValue, handleBroadcast}
+use Rattle.subset.specs.Proposal.{asksAgreement, asksBroadcast, Moved, afterAgreement, afterBroadcast, movedTo, instanceAnswer, answerAgreement, voteTrue, afterValue, answerBroadcast}
 use Rattle.subset.specs.Subset.{allComplete, countAccepted, contributed, atProposal, broadcastAt, agreementAt, voteFrom, votes, tryOutput, propose, handleMessage}
 
 -- THE LIMIT OF A PLACE, which its word is below. The epoch's own words: status, decided, accepted, count; the rest are 0
@@ -141,8 +141,8 @@ module _ (error proposer : ℕ) where
   moved-safe : (m : Moved) (p : Tape) → MovedOk m → AllSmall (p .rest) → Kept ProposalOk SmallOption (movedTo m p)
   moved-safe m p h o = kept-going (h .state) o (h .value)
 
-  pub agreement-safe : (kind : ℕ) → eqb kind 16 ≡ false → SafeProposal (handleAgreement error proposer kind)
-  unfolding handleAgreement SmallOption
+  pub agreement-safe : (kind : ℕ) → eqb kind 16 ≡ false → SafeProposal (answerAgreement error proposer kind)
+  unfolding answerAgreement SmallOption
   agreement-safe kind n s p h o =
       kept-onward _ _ (answer-safe kind _ n s p h o) (λ out s q h o _. moved-safe _ q (agreement-moves s out h) o)
 
@@ -153,8 +153,8 @@ module _ (error proposer : ℕ) where
       let m = broadcast-moves s (Value v) h u in
       kept-cond (asksAgreement (afterBroadcast s (Value v) .state)) _ _ (λ _. agreement-safe 6 refl _ p (m .state) o) (λ _. moved-safe _ p m o)
 
-  pub broadcast-safe : (kind : ℕ) → eqb kind 16 ≡ false → SafeProposal (handleBroadcast error proposer kind)
-  unfolding handleBroadcast SmallOption
+  pub broadcast-safe : (kind : ℕ) → eqb kind 16 ≡ false → SafeProposal (answerBroadcast error proposer kind)
+  unfolding answerBroadcast SmallOption
   broadcast-safe kind n s p h o =
       kept-onward _ _ (answer-safe kind _ n s p h o) (λ out s q h o u. value-safe s out q h o u)
 

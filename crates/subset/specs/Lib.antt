@@ -2,6 +2,7 @@ pub mod Words
 pub mod Proposal
 pub mod Subset
 pub mod Bits
+pub mod Outcomes
 pub mod Opened
 pub mod Cases
 pub mod Rule

@@ -10,8 +10,8 @@ unfolding StepsOpened.opened
     Words.newEpoch Words.proposalOf Words.tagOf Words.valueOf Words.loadProposal Words.storeProposal
     Words.addContribution Words.dropFrom
     Proposal.received Proposal.accepted Proposal.complete Proposal.afterAgreement Proposal.afterBroadcast
-    Proposal.asksAgreement Proposal.asksBroadcast Proposal.instanceAnswer Proposal.handleAgreement Proposal.voteTrue
-    Proposal.afterValue Proposal.handleBroadcast
+    Proposal.asksAgreement Proposal.asksBroadcast Proposal.instanceAnswer Proposal.answerAgreement Proposal.voteTrue
+    Proposal.afterValue Proposal.answerBroadcast Proposal.handleAgreement Proposal.handleBroadcast
     Subset.countFrom Subset.completeFrom Subset.contributed Subset.atProposal Subset.broadcastAt Subset.agreementAt
     Subset.voteFrom Subset.votes Subset.tryOutput Subset.propose Subset.handleMessage
     Bits.tagIn Bits.proposalsIn

@@ -84,20 +84,27 @@ module _ (error p : ℕ) where
       heard (askAbout tape kind p) s (λ a b tape.
       cond (eqb a 0) (ends (failed error) s tape) (readParts content p s tape))
 
-  -- an agreement message (kind 5), propose(true) (6) or propose(false) (7), of a proposal that asks its agreement
-  unfoldable pub handleAgreement : ℕ → ProposalState → Tape → Run ProposalState (Option ℕ)
-  handleAgreement kind s tape =
+  -- an agreement message (kind 5), propose(true) (6) or propose(false) (7), of a proposal that asks its agreement instance
+  unfoldable pub answerAgreement : ℕ → ProposalState → Tape → Run ProposalState (Option ℕ)
+  answerAgreement kind s tape =
       onward (instanceAnswer kind Agreement s tape) (λ out s tape. movedTo (afterAgreement s out) tape)
 
   -- the value has come while the agreement is undecided: a vote 1 for it. "If propose(true) fails after a value, the proposal keeps HasValue."
   unfoldable pub voteTrue : Moved → Tape → Run ProposalState (Option ℕ)
-  voteTrue m tape = cond (asksAgreement (m .state)) (handleAgreement proposeTrue (m .state) tape) (movedTo m tape)
+  voteTrue m tape = cond (asksAgreement (m .state)) (answerAgreement proposeTrue (m .state) tape) (movedTo m tape)
 
   unfoldable pub afterValue : ProposalState → Output → Tape → Run ProposalState (Option ℕ)
   afterValue s Missing tape = movedTo (afterBroadcast s Missing) tape
   afterValue s (Value v) tape = voteTrue (afterBroadcast s (Value v)) tape
 
-  -- `Broadcast::broadcast` (kind 3) or `Broadcast::handle_message` (4), of a proposal that asks its broadcast
-  unfoldable pub handleBroadcast : ℕ → ProposalState → Tape → Run ProposalState (Option ℕ)
-  handleBroadcast kind s tape =
+  -- `Broadcast::broadcast` (kind 3) or `Broadcast::handle_message` (4), of a proposal that asks its broadcast instance
+  unfoldable pub answerBroadcast : ℕ → ProposalState → Tape → Run ProposalState (Option ℕ)
+  answerBroadcast kind s tape =
       onward (instanceAnswer kind Broadcast s tape) (λ out s tape. afterValue s out tape)
+
+  -- `handle_agreement` and `handle_broadcast`, which leave any other proposal as it is
+  unfoldable pub handleAgreement : ℕ → ProposalState → Tape → Run ProposalState (Option ℕ)
+  handleAgreement kind s tape = cond (asksAgreement s) (answerAgreement kind s tape) (movedTo (moved s none) tape)
+
+  unfoldable pub handleBroadcast : ℕ → ProposalState → Tape → Run ProposalState (Option ℕ)
+  handleBroadcast kind s tape = cond (asksBroadcast s) (answerBroadcast kind s tape) (movedTo (moved s none) tape)

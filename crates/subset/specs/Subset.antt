@@ -14,7 +14,7 @@ use Rattle.steps.specs.Answers.{Tape}
 use Rattle.steps.specs.Runs.{going, Run, ends, onward, inside}
 use Rattle.subset.specs.declared.ProposalState.{ProposalState}
 use Rattle.subset.specs.Words.{recordLength, decidedAt, isDecided, proposalIn, loadProposal, storeProposal, addContribution}
-use Rattle.subset.specs.Proposal.{received, accepted, complete, asksAgreement, asksBroadcast, handleAgreement, handleBroadcast}
+use Rattle.subset.specs.Proposal.{received, accepted, complete, asksAgreement, asksBroadcast, answerAgreement, answerBroadcast}
 
 -- In words whose records have `size` words each
 module _ (size : ℕ) where
@@ -56,13 +56,13 @@ module _ (net : NetworkInfo) (error : ℕ) where
   unfoldable pub broadcastAt : ℕ → ℕ → List ℕ → Tape → Run (List ℕ) (Unit {0})
   broadcastAt kind p w tape =
       cond (asksBroadcast (loadProposal (net .«num_nodes») w p))
-      (atProposal p w (handleBroadcast error p kind (loadProposal (net .«num_nodes») w p) tape))
+      (atProposal p w (answerBroadcast error p kind (loadProposal (net .«num_nodes») w p) tape))
       (ends (going tt) w tape)
 
   unfoldable pub agreementAt : ℕ → ℕ → List ℕ → Tape → Run (List ℕ) (Unit {0})
   agreementAt kind p w tape =
       cond (asksAgreement (loadProposal (net .«num_nodes») w p))
-      (atProposal p w (handleAgreement error p kind (loadProposal (net .«num_nodes») w p) tape))
+      (atProposal p w (answerAgreement error p kind (loadProposal (net .«num_nodes») w p) tape))
       (ends (going tt) w tape)
 
   -- `vote_false`: propose(false) for proposer p, if it is still possible

@@ -10,26 +10,19 @@
 //
 // TABLE is the words of an answer table. Any other line is skipped.
 ghost use Prim.Native.Nat.{_≤_, _<_};
-ghost use lib.ListN.{length};
 ghost use Rattle.steps.specs.Network.{Network};
 use decryption::Outcome;
 use decryption::ThresholdDecrypt;
 use libc::STDIN_FILENO;
-use libc::STDOUT_FILENO;
+use lines::line_end;
+use lines::number;
+use lines::numbers;
+use lines::say;
 use steps::network_info::NetworkInfo;
 use steps::reader::Answer;
 use steps::reader::Content;
 use steps::reader::Output;
 use steps::step::Step;
-
-fn say(text: &[u8]) {
-    io::write_all(STDOUT_FILENO, text);
-}
-
-fn number(n: u64) {
-    say(b" ");
-    io::print_decimal(STDOUT_FILENO, n);
-}
 
 fn line_begins() {
     say(b"  step");
@@ -247,77 +240,6 @@ fn instance(words: &[u64; 256]) -> ThresholdDecrypt {
         had_input: true,
         terminated: false,
     }
-}
-
-// The digit that a byte stands for, or 10.
-fn digit(b: u8) -> u64
-    ensures { λ r. ⌜ r ≤ 10 ⌝ }
-{
-    if b < b'0' {
-        return 10;
-    }
-    if b'9' < b {
-        return 10;
-    }
-    (b - b'0') as u64
-}
-
-// A number with one more digit. One that would not fit in a word stays.
-fn with_digit(value: u64, digit: u64) -> u64
-    requires { ⌜ digit ≤ 10 ⌝ }
-{
-    if 1_000_000_000_000_000_000 < value {
-        return value;
-    }
-    value * 10 + digit
-}
-
-// How many numbers have ended, where n had before a byte that is this digit or, at 10, none.
-fn ended(n: usize, inside: bool, digit: u64) -> usize
-    requires { ⌜ n < 256 ⌝ }
-    ensures { λ r. ⌜ r ≤ 256 ⌝ }
-{
-    if inside & (digit == 10) {
-        return n + 1;
-    }
-    n
-}
-
-// The numbers of a line that ends with a newline, into words that are 0; answers how many there are, at most 256.
-fn numbers(line: &[u8], words: &mut [u64; 256]) -> usize
-    ensures { λ r. ⌜ r ≤ 256 ⌝ }
-{
-    let mut n: usize = 0;
-    let mut inside = false;
-    let mut i: usize = 0;
-    while i < line.len() {
-        if n == 256 {
-            return n;
-        }
-        let d = digit(line[i]);
-        if d < 10 {
-            words[n] = with_digit(words[n], d);
-        }
-        n = ended(n, inside, d);
-        inside = d < 10;
-        i += 1;
-    }
-    n
-}
-
-// Where the line that begins here ends: past its newline.
-fn line_end(text: &[u8], from: usize) -> usize
-    requires { ⌜ from < length (now text) ⌝ }
-    ensures { λ r. ⌜ (from < r) × (r ≤ length (now (text .entry))) ⌝ }
-{
-    let mut i = from;
-    while i < text.len() {
-        if text[i] == b'\n' {
-            return i + 1;
-        }
-        i += 1;
-    }
-    i
 }
 
 // What a line with these numbers asks for: the instance after it.

@@ -1,0 +1,20 @@
+-- What is proved of the definitions.
+pub mod Created
+pub mod Ranges
+pub mod OneBatch
+pub mod Shown
+pub mod Handout
+pub mod Alike
+pub mod Invariant
+pub mod OneCall
+pub mod Passes
+pub mod OneRun
+pub mod TwoRuns
+pub mod Agreement
+pub mod Entries
+pub mod Eights
+pub mod Rule
+pub mod Tests
+pub mod Pair
+pub mod Worked
+pub mod SecondPair

@@ -1,0 +1,50 @@
+-- What each enum of an epoch stands for, and what its functions leave.
+use Prim.Native.Nat.{ℕ}
+use mathlib.Core.List.{List}
+use mathlib.Core.Bool.{Bool}
+use mathlib.Core.Option.{Option, none, some}
+use Rattle.steps.specs.declared.network_info.NetworkInfo.{NetworkInfo}
+use Rattle.steps.specs.Answers.{Tape}
+use Rattle.steps.specs.declared.step.Step.{Step}
+use Rattle.steps.specs.Steps.{Out, out}
+use Rattle.steps.specs.Runs.{Verdict, going, refused, failed, Run, ends, onward, Left}
+use Rattle.decryption.specs.declared.ThresholdDecrypt.{ThresholdDecrypt}
+use Rattle.epoch.specs.declared.SubsetHandlingStrategy.{SubsetHandlingStrategy}
+use Rattle.epoch.specs.Epoch.{processSubset, handedUp}
+use Rattle.epoch.specs.declared.epoch_state.Outcome.{Outcome}
+use Rattle.epoch.specs.declared.epoch_state.Outcome.the-variants.{Done, Refused, Failed}
+use Rattle.epoch.specs.declared.epoch_state.Ran.{Ran}
+use Rattle.epoch.specs.declared.epoch_state.Called.{Called}
+use Rattle.epoch.specs.declared.epoch_state.Called.the-variants.{Nothing, Plaintext, Refused as NotCalled, Failed as CallFailed}
+use Rattle.epoch.specs.declared.epoch_state.Entered.{Entered}
+
+-- a run of an epoch is done, is refused for want of an answer, or fails with this number
+abbrev pub outcomeVerdict : Outcome → Verdict (Unit {0})
+outcomeVerdict Done = going tt
+outcomeVerdict Refused = refused
+outcomeVerdict (Failed error) = failed error
+
+-- a call of a decryption entry has no plaintext yet, or the plaintext
+abbrev pub calledVerdict : Called → Verdict (Option ℕ)
+calledVerdict Nothing = going none
+calledVerdict (Plaintext h) = going (some h)
+calledVerdict NotCalled = refused
+calledVerdict (CallFailed error) = failed error
+
+-- with the epoch's words
+abbrev pub leftOf : List ℕ → Outcome → Tape → Out → Left (List ℕ) (Unit {0})
+leftOf epoch o p u = record { state = epoch; verdict = outcomeVerdict o; tape = p; out = u }
+
+-- where nothing is asked, so that it is done
+abbrev pub leftDone : List ℕ → Tape → Out → Left (List ℕ) (Unit {0})
+leftDone epoch p u = leftOf epoch Done p u
+
+abbrev pub left : List ℕ → Ran → Tape → List ℕ → Left (List ℕ) (Unit {0})
+left epoch r p w = leftOf epoch (r .outcome) p (out (r .step) w)
+
+abbrev pub leftEntered : Entered → Tape → List ℕ → Left ThresholdDecrypt (Option ℕ)
+leftEntered r p w = record { state = r .td; verdict = calledVerdict (r .outcome); tape = p; out = out (r .step) w }
+
+-- what follows a call of the subset that came to this, in an epoch that had k contributions before it
+abbrev pub upAs : NetworkInfo → SubsetHandlingStrategy → Bool → ℕ → Verdict Bool → List ℕ → Tape → Run (List ℕ) (Unit {0})
+upAs net strategy encrypted k v w t = onward (handedUp net strategy encrypted k v (ends v w t)) (processSubset net strategy encrypted)

@@ -1,0 +1,98 @@
+-- Made by `fill` from answers.txt: change that and fill again.
+use Prim.Native.Nat.{ℕ, _<_, _≤_}
+use mathlib.Core.Path.{_≡_, refl, sym, _∙_}
+use mathlib.Core.List.{List}
+use mathlib.Core.Bool.{Bool, true, false, not}
+use lib.ListN.{length}
+use native.Mathlib.Omega.{arith}
+use borrow.Author.Needs.{needs}
+use Rattle.subset.specs.Words.{epochLength}
+use Rattle.subset.proofs.Ranges.{field-below}
+use Rattle.epoch.specs.declared.SubsetHandlingStrategy.{SubsetHandlingStrategy}
+use Rattle.epoch.specs.Shape.{Listed}
+use Rattle.epoch.specs.Words.{epochInRange}
+use Rattle.epoch.proofs.RangesWords.{most-kept, epoch-below, epoch-keeps}
+use Rattle.epochs.proofs.enter.Statement.{statement}
+use Rattle.epochs.proofs.enter.Tie as tie
+use Rattle.epochs.proofs.enter.Reads as reads
+use Rattle.epochs.proofs.enter.Lts as lts
+use Rattle.epoch.proofs.epoch_state.handle_message_content.Reads as handle-message-content-reads
+use Rattle.epoch.proofs.epoch_state.propose.Reads as propose-reads
+use Rattle.epoch.proofs.range.epoch_in_range.Reads as epoch-in-range-reads
+use Rattle.epochs.proofs.content_of.Reads as content-of-reads
+
+-- src/main.rt:149:9
+epoch-in-range-requires : tie.Need-epoch-in-range-requires
+epoch-in-range-requires c κs = search needs
+
+-- src/main.rt:151:9
+same-length : tie.Need-same-length
+same-length c = search needs
+
+-- src/main.rt:151:9
+returns : tie.Need-returns
+returns c = search needs
+
+in-range : (b : Bool) → not b ≡ false → b ≡ true
+in-range true e = refl
+in-range false e = sym e
+
+listed : (strategy : SubsetHandlingStrategy) (n : ℕ) (w : List ℕ) → 0 < n → length w ≡ epochLength n → epochInRange strategy n w ≡ true → Listed n w
+listed strategy n w some long h =
+    record {
+      count = omega (arith, epoch-keeps n w strategy h, most-kept strategy n);
+      who = λ i l. field-below n w i 7 (epoch-below n w strategy some long h) (omega arith);
+    }
+
+-- src/main.rt:154:9
+propose-requires : tie.Need-propose-requires
+propose-requires c κs = (c .before .before .before .before .before .before .before .before .before .before .before .before .pre .0, c .before .before .before .before .before .before .before .before .before .before .before .before .pre .1, (listed _ _ _ (c .before .before .before .before .before .before .before .before .before .before .before .before .pre .0 .some) (c .before .before .before .before .before .before .before .before .before .before .before .before .pre .1 .long) (sym (c .before .before .before .before .before .before .epoch-in-range .ensures) ∙ in-range _ (c .before .before .before .before .before .if1 .left))))
+
+-- src/main.rt:154:9
+same-length-2 : tie.Need-same-length-2
+same-length-2 c = search needs
+
+-- src/main.rt:154:9
+same-length-3 : tie.Need-same-length-3
+same-length-3 c = search needs
+
+-- src/main.rt:154:9
+returns-2 : tie.Need-returns-2
+returns-2 c = search needs
+
+-- src/main.rt:156:9
+content-of-requires : tie.Need-content-of-requires
+content-of-requires c κs = search needs
+
+-- src/main.rt:157:5
+handle-message-content-requires : tie.Need-handle-message-content-requires
+handle-message-content-requires c κs = (c .before .before .before .before .before .before .before .before .before .before .before .before .before .pre .0, c .before .before .before .before .before .before .before .before .before .before .before .before .before .pre .1, (listed _ _ _ (c .before .before .before .before .before .before .before .before .before .before .before .before .before .pre .0 .some) (c .before .before .before .before .before .before .before .before .before .before .before .before .before .pre .1 .long) (sym (c .before .before .before .before .before .before .before .epoch-in-range .ensures) ∙ in-range _ (c .before .before .before .before .before .before .if1 .left))), c .before .before .before .before .before .before .before .before .before .before .before .before .before .pre .2, c .before .before .before .before .before .before .before .before .before .before .before .before .before .pre .3)
+
+-- src/main.rt:135:1
+same-length-4 : tie.Need-same-length-4
+same-length-4 c = search needs
+
+-- src/main.rt:135:1
+same-length-5 : tie.Need-same-length-5
+same-length-5 c = search needs
+
+-- src/main.rt:135:1
+returns-3 : tie.Need-returns-3
+returns-3 c = search needs
+
+pub enter-spec : {M : Type 1} → statement M
+enter-spec =
+    tie.close
+    (tie.spec
+    epoch-in-range-requires
+    same-length
+    returns
+    propose-requires
+    same-length-2
+    same-length-3
+    returns-2
+    content-of-requires
+    handle-message-content-requires
+    same-length-4
+    same-length-5
+    returns-3)

@@ -1,0 +1,6 @@
+-- What is proved of the definitions, for this crate's proofs and for those above it.
+pub mod Bools
+pub mod Schedules
+pub mod Places
+pub mod Window
+pub mod RangesState
