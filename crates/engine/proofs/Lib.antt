@@ -11,5 +11,7 @@ pub mod Settled
 pub mod FaultCount
 pub mod WorkRanges
 pub mod WorkLeaves
+pub mod BatchTurns
+pub mod RunParts
 pub mod Bounded
 pub mod Received
