@@ -12,4 +12,5 @@ pub mod FaultCount
 pub mod WorkRanges
 pub mod WorkLeaves
 pub mod Bounded
+pub mod CallEnds
 pub mod Received
