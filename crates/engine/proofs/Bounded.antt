@@ -7,7 +7,6 @@ use native.Mathlib.Omega.{arith}
 use native.Mathlib.Nat.{mul-le-mul-right, mul-le-mul-left}
 use lib.ListN.{length, set}
 use lib.Dec.{eqb, ltb}
-use borrow.Author.Tests.{leb-true}
 use Rattle.steps.specs.Network.{isValidator}
 use Rattle.steps.specs.Table.{tableOk}
 use Rattle.steps.specs.Answers.{Tape, tapeOf}
@@ -21,13 +20,13 @@ use Rattle.epoch.specs.Words.{isVacant}
 use Rattle.epoch.specs.Batch.{isReady, outputBatch}
 use Rattle.epoch.proofs.Bounded.{batch-writes, propose-writes, content-writes}
 use Rattle.subset.proofs.Bounded.{Writes}
-use Rattle.state.specs.State.{inputAt, headerTests, nodes, ahead, currentEpoch, netOf, epochWords, stateOk}
+use Rattle.state.specs.State.{inputAt, nodes, ahead, currentEpoch, netOf, epochWords, stateOk}
 use Rattle.engine.specs.declared.honey_badger.Call.{Call}
 use Rattle.engine.specs.declared.honey_badger.Call.the-variants.{Propose, Message}
 use Rattle.engine.specs.HoneyBadger.{propose, handleMessage}
 use Rattle.engine.specs.Work.{built, epochCall, batchesFrom, worked, beside, workIn, proposeWork, messageWork, committed}
-use Rattle.engine.specs.Shape.{bodyOf, callWork}
-use Rattle.state.proofs.RangesState.{test, header-ok}
+use Rattle.engine.specs.Shape.{callWork}
+use Rattle.state.proofs.RangeCode.{ok-words}
 use Rattle.engine.proofs.Works.{propose-apart, message-apart}
 
 -- WHAT A CALL WRITES besides one entry for each record that it reads. An epoch: at most 16 × 16 faults 2 and one fault more
@@ -76,16 +75,15 @@ logLimit = chainLimit + callLimit
 module _ (w : List ℕ) (ok : stateOk w ≡ true) where
   -- a call of one epoch, and the batches that go out behind it
   work-bounded : (e : ℕ) (body : List ℕ → Tape → Run (List ℕ) (Unit {0})) → Writes (1 + nodes w * nodes w) body → (p : Tape) → Bounded callLimit p (workIn w e body p)
-  unfolding workIn headerTests
+  unfolding workIn
   work-bounded e body f p =
-      let few : nodes w ≤ 16 = header-ok w ok .few in
-      let near : ahead w ≤ 15 = leb-true (ahead w) 15 (test w ok 3) in
+      let h = ok-words w ok in
       let c = epochCall (nodes w) body (epochWords w e) p in
       bounded-then epochLimit (16 * batchLimit) p _ _
       (bounded-inside (λ x. worked x (currentEpoch w)) _
-      (bounded-wider (1 + nodes w * nodes w) epochLimit p _ (epoch-limit (nodes w) few) (epoch-writes (nodes w) (1 + nodes w * nodes w) body f (epochWords w e) p)))
+      (bounded-wider (1 + nodes w * nodes w) epochLimit p _ (epoch-limit (nodes w) (h .few)) (epoch-writes (nodes w) (1 + nodes w * nodes w) body f (epochWords w e) p)))
       (λ _ _. bounded-inside (worked (c .state)) _
-      (bounded-wider ((ahead w + 1) * batchLimit) (16 * batchLimit) (c .tape) _ (omega arith) (batches-write (nodes w) few (beside w e (c .state)) (ahead w + 1) (currentEpoch w) (c .tape))))
+      (bounded-wider ((ahead w + 1) * batchLimit) (16 * batchLimit) (c .tape) _ (omega (arith, h .near)) (batches-write (nodes w) (h .few) (beside w e (c .state)) (ahead w + 1) (currentEpoch w) (c .tape))))
 
   call-bounded : (call : Call) (epoch : ℕ) (p : Tape) → Bounded callLimit p (callWork call epoch w p)
   unfolding netOf

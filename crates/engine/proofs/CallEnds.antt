@@ -3,25 +3,24 @@ use Prim.Native.Nat.{ℕ, _+_, _-_, _/_, _<_, _≤_}
 use native.Mathlib.Omega.{arith}
 use mathlib.Core.Path.{_≡_, refl, sym, ap, _∙_}
 use mathlib.Core.List.{List, [], _∷_, _++_}
-use mathlib.Core.Bool.{Bool, true, false, cond}
+use mathlib.Core.Bool.{Bool, true, false}
 use lib.ListN.{length, drop, replicate}
 use lib.Seq.{drop-append-add, drop-drop}
-use lib.Dec.{leb, ltb}
+use lib.Dec.{leb}
 use borrow.Author.Tests.{lt-ltb, le-ltb, leb-true, leb-false}
 use Rattle.steps.specs.Answers.{Tape, chain}
 use Rattle.steps.specs.declared.step.Step.{Step}
 use Rattle.steps.specs.Steps.{Entry, fault, faults, messages, outputs, out, putAll, putEntry, counting, Counted, writing, records, putHeader, written}
 use Rattle.steps.specs.Runs.{going, failed, numberOf, Run, Left, ends, before, leaves}
 use Rattle.steps.proofs.Laws.{chain-on, chain-off, on-record, off-at-zero, off-past, putAll-one}
-use Rattle.steps.proofs.Counting.{exactOf, counted}
+use Rattle.steps.proofs.Counting.{counted}
 use Rattle.steps.proofs.Finished.{finished-failed, finished-exact, finished}
 use Rattle.epoch.specs.declared.epoch_state.Outcome.the-variants.{Done, Refused, Failed}
 use Rattle.epoch.specs.Outcomes.{outcomeVerdict}
 use Rattle.subset.specs.Words.{epochLength}
-use Rattle.state.specs.State.{nodes, ahead, scratchOf, headerTests, stateOk}
-use Rattle.state.proofs.Window.{place-in}
-use Rattle.state.proofs.RangesState.{test, header-ok, shaped}
-use Rattle.state.specs.Shape.{StateWords}
+use Rattle.state.specs.State.{nodes, scratchOf, stateOk}
+use Rattle.state.proofs.WordsCode.{place-inside}
+use Rattle.state.proofs.RangeCode.{ok-words}
 use Rattle.engine.specs.declared.honey_badger.Ran.{Ran}
 use Rattle.engine.specs.Calls.{after, zeroed, countFaults, isEnd, concludeAs, conclude}
 use Rattle.engine.specs.Work.{Worked, worked, committed, settled, allRead, asDone}
@@ -54,14 +53,7 @@ zeroed-part w s x l e h =
 
 -- an epoch's words fit in it
 pub epoch-fits : (w : List ℕ) → stateOk w ≡ true → epochLength (nodes w) ≤ scratchOf w
-epoch-fits w ok = omega (arith, scratch-is w ok, place-in (nodes w) (ahead w) w (shaped w ok) 0)
-
-ok-tests-words : (w : List ℕ) → stateOk w ≡ true → StateWords w
-unfolding headerTests
-ok-tests-words w ok = record { few = header-ok w ok .few; near = leb-true (ahead w) 15 (test w ok 3); epoch = header-ok w ok .epoch; long = shaped w ok .long }
-
-pub ok-words : (w : List ℕ) → stateOk w ≡ true → StateWords w
-ok-words w ok = ok-tests-words w ok
+epoch-fits w ok = omega (arith, scratch-is w ok, place-inside w (ok-words w ok) 0)
 
 -- a part without words
 pub nothing : (v w : List ℕ) → length v ≡ 0 → v ++ w ≡ w

@@ -199,12 +199,5 @@ pub fn settle(
         ≡ settled (callWork call epoch (now (state .entry)) (tapeOf (now (answers .entry)))) epoch (callBase call (now (state .entry))) (now (state .entry)) (zeroed (now (state .entry)) (now (scratch .entry))) (now (table .entry)) ⌝ }
 {
     let size = epoch_length(state[NODES_AT] as usize);
-    run_twice(
-        state,
-        &mut scratch[..size],
-        epoch,
-        call,
-        answers,
-        table,
-    )
+    run_twice(state, &mut scratch[..size], epoch, call, answers, table)
 }
