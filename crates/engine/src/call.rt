@@ -154,6 +154,7 @@ fn run_twice(
         ≡ settled (callWork call epoch (now (state .entry)) (tapeOf (now (answers .entry)))) epoch (callBase call (now (state .entry))) (now (state .entry)) scratch (now (table .entry))) ⌝ }
 {
     let mut place = answers[0] as usize;
+    let counting = Step::counting();
     let first = run(
         state,
         epoch,
@@ -161,7 +162,7 @@ fn run_twice(
         words,
         answers,
         &mut place,
-        Step::counting(),
+        counting,
         &mut table[..0],
     );
     let next = first.next;

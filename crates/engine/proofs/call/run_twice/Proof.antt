@@ -21,77 +21,77 @@ use Rattle.steps.proofs.step.Step.counting.Reads as counting-reads
 shared-slice-read-place : tie.Need-shared-slice-read-place
 shared-slice-read-place c = search needs
 
--- src/call.rt:164:9
+-- src/call.rt:157:9
 counting-requires : tie.Need-counting-requires
 counting-requires c κs = search needs
 
--- src/call.rt:165:9
+-- src/call.rt:166:9
 slice-relend-prefix-run : tie.Need-slice-relend-prefix-run
 slice-relend-prefix-run c = search needs
 
--- src/call.rt:165:9
+-- src/call.rt:166:9
 slice-aggregate-run : tie.Need-slice-aggregate-run
 slice-aggregate-run c = search needs
 
--- src/call.rt:157:9
+-- src/call.rt:158:9
 run-requires : tie.Need-run-requires
 run-requires c κs = (c .before .before .before .before .before .before .before .before .before .before .pre .ok, c .before .before .before .before .before .before .before .before .before .before .pre .nodes, c .before .before .before .before .before .before .before .before .before .before .pre .long)
 
--- src/call.rt:170:9
+-- src/call.rt:171:9
 is-end-requires : tie.Need-is-end-requires
 is-end-requires c κs = search needs
 
--- src/call.rt:172:29
+-- src/call.rt:173:29
 enum-told : tie.Need-enum-told
 enum-told c = search needs
 
--- src/call.rt:173:25
+-- src/call.rt:174:25
 enum-known-outcome : tie.Need-enum-known-outcome
 enum-known-outcome c = search needs
 
--- src/call.rt:175:17
+-- src/call.rt:176:17
 same-length : tie.Need-same-length
 same-length c = search needs
 
--- src/call.rt:175:17
+-- src/call.rt:176:17
 same-length-2 : tie.Need-same-length-2
 same-length-2 c = search needs
 
--- src/call.rt:175:17
+-- src/call.rt:176:17
 same-length-3 : tie.Need-same-length-3
 same-length-3 c = search needs
 
--- src/call.rt:175:17
+-- src/call.rt:176:17
 returns : tie.Need-returns
-returns c = λ s. failed-unread (c .before .before .before .before .before .before .before .before .before .before .before .before .before .before .before .before .before .before .before .before .before .args .state .now) (callBase (c .before .before .before .before .before .before .before .before .before .before .before .before .before .before .before .before .before .before .before .before .before .args .call) (c .before .before .before .before .before .before .before .before .before .before .before .before .before .before .before .before .before .before .before .before .before .args .state .now)) s (c .before .before .before .before .before .before .before .before .before .before .before .before .before .before .before .before .before .before .before .before .before .args .table .now) ((c .before .before .before .before .before .before .before .before .before .before .run .last .1 .1 .1 .1 .1 .1 .1 .0) ++ (c .before .before .before .before .before .before .before .before .before .before .before .before .before .before .before .before .before .before .before .before .before .args .table .now)) (nothing (c .before .before .before .before .before .before .before .before .before .before .run .last .1 .1 .1 .1 .1 .1 .1 .0) (c .before .before .before .before .before .before .before .before .before .before .before .before .before .before .before .before .before .before .before .before .before .args .table .now) (c .before .before .before .before .before .before .before .before .before .before .run .kept .1 .1 .1 .1 .1 .1 .1 .0)) (c .before .before .before .before .before .before .before .before .before .before .before .before .before .before .before .before .before .before .before .before .before .args .epoch) (callWork (c .before .before .before .before .before .before .before .before .before .before .before .before .before .before .before .before .before .before .before .before .before .args .call) (c .before .before .before .before .before .before .before .before .before .before .before .before .before .before .before .before .before .before .before .before .before .args .epoch) (c .before .before .before .before .before .before .before .before .before .before .before .before .before .before .before .before .before .before .before .before .before .args .state .now) (tapeOf (c .before .before .before .before .before .before .before .before .before .before .before .before .before .before .before .before .before .before .before .before .before .args .answers .now))) (c .before .before .before .before .before .before .before .before .before .before .run .result) (c .before .before .before .before .before .before .before .before .before .before .run .last .1 .1 .1 .0) _ (c .before .before .before .before .before .before .before .before .before .before .run .last .1 .1 .1 .1 .1 .1 .1 .0) (c .before .before .before .before .before .before .before .before .before .before .before .before .counting .result) (c .before .before .before .before .before .before .before .before .before .before .before .before .counting .ensures) (c .before .before .before .before .before .before .before .before .before .before .run .ensures) _ (c .before .before .outcome .given .1) (sym (c .before .before .before .before .is-end .ensures) ∙ not-true _ (c .if1 .taken))
+returns c = λ s. failed-unread (c .before .before .before .before .before .before .before .before .before .before .before .before .before .before .before .before .before .before .before .before .before .args .state .now) (callBase (c .before .before .before .before .before .before .before .before .before .before .before .before .before .before .before .before .before .before .before .before .before .args .call) (c .before .before .before .before .before .before .before .before .before .before .before .before .before .before .before .before .before .before .before .before .before .args .state .now)) s (c .before .before .before .before .before .before .before .before .before .before .before .before .before .before .before .before .before .before .before .before .before .args .table .now) ((c .before .before .before .before .before .before .before .before .before .before .run .last .1 .1 .1 .1 .1 .1 .1 .0) ++ (c .before .before .before .before .before .before .before .before .before .before .before .before .before .before .before .before .before .before .before .before .before .args .table .now)) (nothing (c .before .before .before .before .before .before .before .before .before .before .run .last .1 .1 .1 .1 .1 .1 .1 .0) (c .before .before .before .before .before .before .before .before .before .before .before .before .before .before .before .before .before .before .before .before .before .args .table .now) (c .before .before .before .before .before .before .before .before .before .before .run .kept .1 .1 .1 .1 .1 .1 .1 .0)) (c .before .before .before .before .before .before .before .before .before .before .before .before .before .before .before .before .before .before .before .before .before .args .epoch) (callWork (c .before .before .before .before .before .before .before .before .before .before .before .before .before .before .before .before .before .before .before .before .before .args .call) (c .before .before .before .before .before .before .before .before .before .before .before .before .before .before .before .before .before .before .before .before .before .args .epoch) (c .before .before .before .before .before .before .before .before .before .before .before .before .before .before .before .before .before .before .before .before .before .args .state .now) (tapeOf (c .before .before .before .before .before .before .before .before .before .before .before .before .before .before .before .before .before .before .before .before .before .args .answers .now))) (c .before .before .before .before .before .before .before .before .before .before .run .result) (c .before .before .before .before .before .before .before .before .before .before .run .last .1 .1 .1 .0) _ (c .before .before .before .before .before .before .before .before .before .before .run .last .1 .1 .1 .1 .1 .1 .1 .0) (c .before .before .before .before .before .before .before .before .before .before .before .before .before .before .before .counting .result) (c .before .before .before .before .before .before .before .before .before .before .before .before .before .before .before .counting .ensures) (c .before .before .before .before .before .before .before .before .before .before .run .ensures) _ (c .before .before .outcome .given .1) (sym (c .before .before .before .before .is-end .ensures) ∙ not-true _ (c .if1 .taken))
 
--- src/call.rt:177:13
+-- src/call.rt:178:13
 fail-requires : tie.Need-fail-requires
 fail-requires c κs = (ok-words (c .before .before .before .before .before .before .before .before .before .before .before .before .before .before .before .before .before .before .before .before .before .before .before .before .args .state .now) (c .before .before .before .before .before .before .before .before .before .before .before .before .before .before .before .before .before .before .before .before .before .before .before .before .pre .ok), (c .before .before .before .before .before .before .before .before .before .before .before .before .before .run .kept .1 .1 .1 .0 ∙ c .before .before .before .before .before .before .before .before .before .before .before .before .before .before .before .before .before .before .before .before .before .before .before .before .pre .long))
 
--- src/call.rt:180:16
+-- src/call.rt:181:16
 enum-told-2 : tie.Need-enum-told-2
 enum-told-2 c = search needs
 
--- src/call.rt:181:17
+-- src/call.rt:182:17
 same-length-4 : tie.Need-same-length-4
 same-length-4 c = search needs
 
--- src/call.rt:181:17
+-- src/call.rt:182:17
 same-length-5 : tie.Need-same-length-5
 same-length-5 c = search needs
 
--- src/call.rt:181:17
+-- src/call.rt:182:17
 same-length-6 : tie.Need-same-length-6
 same-length-6 c = search needs
 
--- src/call.rt:181:17
+-- src/call.rt:182:17
 returns-2 : tie.Need-returns-2
-returns-2 c = λ s. done-unread (c .before .before .before .before .before .before .before .before .before .before .before .before .before .before .before .before .before .before .before .before .args .state .now) (callBase (c .before .before .before .before .before .before .before .before .before .before .before .before .before .before .before .before .before .before .before .before .args .call) (c .before .before .before .before .before .before .before .before .before .before .before .before .before .before .before .before .before .before .before .before .args .state .now)) s (c .before .before .before .before .before .before .before .before .before .before .before .before .before .before .before .before .before .before .before .before .args .table .now) ((c .before .before .before .before .before .before .before .before .before .run .last .1 .1 .1 .1 .1 .1 .1 .0) ++ (c .before .before .before .before .before .before .before .before .before .before .before .before .before .before .before .before .before .before .before .before .args .table .now)) (nothing (c .before .before .before .before .before .before .before .before .before .run .last .1 .1 .1 .1 .1 .1 .1 .0) (c .before .before .before .before .before .before .before .before .before .before .before .before .before .before .before .before .before .before .before .before .args .table .now) (c .before .before .before .before .before .before .before .before .before .run .kept .1 .1 .1 .1 .1 .1 .1 .0)) (c .before .before .before .before .before .before .before .before .before .before .before .before .before .before .before .before .before .before .before .before .args .epoch) (callWork (c .before .before .before .before .before .before .before .before .before .before .before .before .before .before .before .before .before .before .before .before .args .call) (c .before .before .before .before .before .before .before .before .before .before .before .before .before .before .before .before .before .before .before .before .args .epoch) (c .before .before .before .before .before .before .before .before .before .before .before .before .before .before .before .before .before .before .before .before .args .state .now) (tapeOf (c .before .before .before .before .before .before .before .before .before .before .before .before .before .before .before .before .before .before .before .before .args .answers .now))) (c .before .before .before .before .before .before .before .before .before .run .result) (c .before .before .before .before .before .before .before .before .before .run .last .1 .1 .1 .0) _ (c .before .before .before .before .before .before .before .before .before .run .last .1 .1 .1 .1 .1 .1 .1 .0) (c .before .before .before .before .before .before .before .before .before .before .before .counting .result) (c .before .before .before .before .before .before .before .before .before .before .before .counting .ensures) (c .before .before .before .before .before .before .before .before .before .run .ensures) (c .before .enum-told2 .given .1) (sym (c .before .before .before .is-end .ensures) ∙ not-true _ (c .if2 .taken))
+returns-2 c = λ s. done-unread (c .before .before .before .before .before .before .before .before .before .before .before .before .before .before .before .before .before .before .before .before .args .state .now) (callBase (c .before .before .before .before .before .before .before .before .before .before .before .before .before .before .before .before .before .before .before .before .args .call) (c .before .before .before .before .before .before .before .before .before .before .before .before .before .before .before .before .before .before .before .before .args .state .now)) s (c .before .before .before .before .before .before .before .before .before .before .before .before .before .before .before .before .before .before .before .before .args .table .now) ((c .before .before .before .before .before .before .before .before .before .run .last .1 .1 .1 .1 .1 .1 .1 .0) ++ (c .before .before .before .before .before .before .before .before .before .before .before .before .before .before .before .before .before .before .before .before .args .table .now)) (nothing (c .before .before .before .before .before .before .before .before .before .run .last .1 .1 .1 .1 .1 .1 .1 .0) (c .before .before .before .before .before .before .before .before .before .before .before .before .before .before .before .before .before .before .before .before .args .table .now) (c .before .before .before .before .before .before .before .before .before .run .kept .1 .1 .1 .1 .1 .1 .1 .0)) (c .before .before .before .before .before .before .before .before .before .before .before .before .before .before .before .before .before .before .before .before .args .epoch) (callWork (c .before .before .before .before .before .before .before .before .before .before .before .before .before .before .before .before .before .before .before .before .args .call) (c .before .before .before .before .before .before .before .before .before .before .before .before .before .before .before .before .before .before .before .before .args .epoch) (c .before .before .before .before .before .before .before .before .before .before .before .before .before .before .before .before .before .before .before .before .args .state .now) (tapeOf (c .before .before .before .before .before .before .before .before .before .before .before .before .before .before .before .before .before .before .before .before .args .answers .now))) (c .before .before .before .before .before .before .before .before .before .run .result) (c .before .before .before .before .before .before .before .before .before .run .last .1 .1 .1 .0) _ (c .before .before .before .before .before .before .before .before .before .run .last .1 .1 .1 .1 .1 .1 .1 .0) (c .before .before .before .before .before .before .before .before .before .before .before .before .before .before .counting .result) (c .before .before .before .before .before .before .before .before .before .before .before .before .before .before .counting .ensures) (c .before .before .before .before .before .before .before .before .before .run .ensures) (c .before .enum-told2 .given .1) (sym (c .before .before .before .is-end .ensures) ∙ not-true _ (c .if2 .taken))
 
--- src/call.rt:183:13
+-- src/call.rt:184:13
 finish-requires : tie.Need-finish-requires
-finish-requires c κs = (record { ok = c .before .before .before .before .before .before .before .before .before .before .before .before .before .before .before .before .before .before .before .before .before .before .before .pre .ok; good = c .before .before .before .before .before .before .before .before .before .before .before .before .before .before .before .before .before .before .before .before .before .before .before .pre .good; long = (c .before .before .before .before .before .before .before .before .before .before .before .before .run .kept .1 .1 .1 .0 ∙ c .before .before .before .before .before .before .before .before .before .before .before .before .before .before .before .before .before .before .before .before .before .before .before .pre .long); nodes = c .before .before .before .before .before .before .before .before .before .before .before .before .before .before .before .before .before .before .before .before .before .before .before .pre .nodes; first = c .before .before .before .before .before .before .before .before .before .before .before .before .before .before .before .before .before .before .before .before .before .before .before .pre .first }, first-step (c .before .before .before .before .before .before .before .before .before .before .before .before .before .before .before .before .before .before .before .before .before .before .before .args .state .now) (c .before .before .before .before .before .before .before .before .before .before .before .before .before .before .before .before .before .before .before .before .before .before .before .args .state .now) (c .before .before .before .before .before .before .before .before .before .before .before .before .before .before .before .before .before .before .before .before .before .before .before .args .state .now) (c .before .before .before .before .before .before .before .before .before .before .before .before .before .before .before .before .before .before .before .before .before .before .before .args .table .now) ((c .before .before .before .before .before .before .before .before .before .before .before .before .run .last .1 .1 .1 .1 .1 .1 .1 .0) ++ (c .before .before .before .before .before .before .before .before .before .before .before .before .before .before .before .before .before .before .before .before .before .before .before .args .table .now)) (nothing (c .before .before .before .before .before .before .before .before .before .before .before .before .run .last .1 .1 .1 .1 .1 .1 .1 .0) (c .before .before .before .before .before .before .before .before .before .before .before .before .before .before .before .before .before .before .before .before .before .before .before .args .table .now) (c .before .before .before .before .before .before .before .before .before .before .before .before .run .kept .1 .1 .1 .1 .1 .1 .1 .0)) (c .before .before .before .before .before .before .before .before .before .before .before .before .before .before .before .before .before .before .before .before .before .before .before .args .epoch) (callWork (c .before .before .before .before .before .before .before .before .before .before .before .before .before .before .before .before .before .before .before .before .before .before .before .args .call) (c .before .before .before .before .before .before .before .before .before .before .before .before .before .before .before .before .before .before .before .before .before .before .before .args .epoch) (c .before .before .before .before .before .before .before .before .before .before .before .before .before .before .before .before .before .before .before .before .before .before .before .args .state .now) (tapeOf (c .before .before .before .before .before .before .before .before .before .before .before .before .before .before .before .before .before .before .before .before .before .before .before .args .answers .now))) (c .before .before .before .before .before .before .before .before .before .before .before .before .run .result) (c .before .before .before .before .before .before .before .before .before .before .before .before .run .last .1 .1 .1 .0) _ (c .before .before .before .before .before .before .before .before .before .before .before .before .run .last .1 .1 .1 .1 .1 .1 .1 .0) (c .before .before .before .before .before .before .before .before .before .before .before .before .before .before .counting .result) (c .before .before .before .before .before .before .before .before .before .before .before .before .before .before .counting .ensures) (c .before .before .before .before .before .before .before .before .before .before .before .before .run .ensures))
+finish-requires c κs = (record { ok = c .before .before .before .before .before .before .before .before .before .before .before .before .before .before .before .before .before .before .before .before .before .before .before .pre .ok; good = c .before .before .before .before .before .before .before .before .before .before .before .before .before .before .before .before .before .before .before .before .before .before .before .pre .good; long = (c .before .before .before .before .before .before .before .before .before .before .before .before .run .kept .1 .1 .1 .0 ∙ c .before .before .before .before .before .before .before .before .before .before .before .before .before .before .before .before .before .before .before .before .before .before .before .pre .long); nodes = c .before .before .before .before .before .before .before .before .before .before .before .before .before .before .before .before .before .before .before .before .before .before .before .pre .nodes; first = c .before .before .before .before .before .before .before .before .before .before .before .before .before .before .before .before .before .before .before .before .before .before .before .pre .first }, first-step (c .before .before .before .before .before .before .before .before .before .before .before .before .before .before .before .before .before .before .before .before .before .before .before .args .state .now) (c .before .before .before .before .before .before .before .before .before .before .before .before .before .before .before .before .before .before .before .before .before .before .before .args .state .now) (c .before .before .before .before .before .before .before .before .before .before .before .before .before .before .before .before .before .before .before .before .before .before .before .args .state .now) (c .before .before .before .before .before .before .before .before .before .before .before .before .before .before .before .before .before .before .before .before .before .before .before .args .table .now) ((c .before .before .before .before .before .before .before .before .before .before .before .before .run .last .1 .1 .1 .1 .1 .1 .1 .0) ++ (c .before .before .before .before .before .before .before .before .before .before .before .before .before .before .before .before .before .before .before .before .before .before .before .args .table .now)) (nothing (c .before .before .before .before .before .before .before .before .before .before .before .before .run .last .1 .1 .1 .1 .1 .1 .1 .0) (c .before .before .before .before .before .before .before .before .before .before .before .before .before .before .before .before .before .before .before .before .before .before .before .args .table .now) (c .before .before .before .before .before .before .before .before .before .before .before .before .run .kept .1 .1 .1 .1 .1 .1 .1 .0)) (c .before .before .before .before .before .before .before .before .before .before .before .before .before .before .before .before .before .before .before .before .before .before .before .args .epoch) (callWork (c .before .before .before .before .before .before .before .before .before .before .before .before .before .before .before .before .before .before .before .before .before .before .before .args .call) (c .before .before .before .before .before .before .before .before .before .before .before .before .before .before .before .before .before .before .before .before .before .before .before .args .epoch) (c .before .before .before .before .before .before .before .before .before .before .before .before .before .before .before .before .before .before .before .before .before .before .before .args .state .now) (tapeOf (c .before .before .before .before .before .before .before .before .before .before .before .before .before .before .before .before .before .before .before .before .before .before .before .args .answers .now))) (c .before .before .before .before .before .before .before .before .before .before .before .before .run .result) (c .before .before .before .before .before .before .before .before .before .before .before .before .run .last .1 .1 .1 .0) _ (c .before .before .before .before .before .before .before .before .before .before .before .before .run .last .1 .1 .1 .1 .1 .1 .1 .0) (c .before .before .before .before .before .before .before .before .before .before .before .before .before .before .before .before .before .counting .result) (c .before .before .before .before .before .before .before .before .before .before .before .before .before .before .before .before .before .counting .ensures) (c .before .before .before .before .before .before .before .before .before .before .before .before .run .ensures))
 
 -- src/call.rt:144:1
 same-length-7 : tie.Need-same-length-7
@@ -107,7 +107,7 @@ same-length-9 c = search needs
 
 -- src/call.rt:144:1
 returns-3 : tie.Need-returns-3
-returns-3 c = λ s. first-refused (c .before .before .before .before .before .before .before .before .before .before .before .before .before .before .before .before .before .before .before .args .state .now) (callBase (c .before .before .before .before .before .before .before .before .before .before .before .before .before .before .before .before .before .before .before .args .call) (c .before .before .before .before .before .before .before .before .before .before .before .before .before .before .before .before .before .before .before .args .state .now)) s (c .before .before .before .before .before .before .before .before .before .before .before .before .before .before .before .before .before .before .before .args .table .now) ((c .before .before .before .before .before .before .before .before .run .last .1 .1 .1 .1 .1 .1 .1 .0) ++ (c .before .before .before .before .before .before .before .before .before .before .before .before .before .before .before .before .before .before .before .args .table .now)) (nothing (c .before .before .before .before .before .before .before .before .run .last .1 .1 .1 .1 .1 .1 .1 .0) (c .before .before .before .before .before .before .before .before .before .before .before .before .before .before .before .before .before .before .before .args .table .now) (c .before .before .before .before .before .before .before .before .run .kept .1 .1 .1 .1 .1 .1 .1 .0)) (c .before .before .before .before .before .before .before .before .before .before .before .before .before .before .before .before .before .before .before .args .epoch) (callWork (c .before .before .before .before .before .before .before .before .before .before .before .before .before .before .before .before .before .before .before .args .call) (c .before .before .before .before .before .before .before .before .before .before .before .before .before .before .before .before .before .before .before .args .epoch) (c .before .before .before .before .before .before .before .before .before .before .before .before .before .before .before .before .before .before .before .args .state .now) (tapeOf (c .before .before .before .before .before .before .before .before .before .before .before .before .before .before .before .before .before .before .before .args .answers .now))) (c .before .before .before .before .before .before .before .before .run .result) (c .before .before .before .before .before .before .before .before .run .last .1 .1 .1 .0) _ (c .before .before .before .before .before .before .before .before .run .last .1 .1 .1 .1 .1 .1 .1 .0) (c .before .before .before .before .before .before .before .before .before .before .counting .result) (c .before .before .before .before .before .before .before .before .before .before .counting .ensures) (c .before .before .before .before .before .before .before .before .run .ensures) (c .enum-told .given .1)
+returns-3 c = λ s. first-refused (c .before .before .before .before .before .before .before .before .before .before .before .before .before .before .before .before .before .before .before .args .state .now) (callBase (c .before .before .before .before .before .before .before .before .before .before .before .before .before .before .before .before .before .before .before .args .call) (c .before .before .before .before .before .before .before .before .before .before .before .before .before .before .before .before .before .before .before .args .state .now)) s (c .before .before .before .before .before .before .before .before .before .before .before .before .before .before .before .before .before .before .before .args .table .now) ((c .before .before .before .before .before .before .before .before .run .last .1 .1 .1 .1 .1 .1 .1 .0) ++ (c .before .before .before .before .before .before .before .before .before .before .before .before .before .before .before .before .before .before .before .args .table .now)) (nothing (c .before .before .before .before .before .before .before .before .run .last .1 .1 .1 .1 .1 .1 .1 .0) (c .before .before .before .before .before .before .before .before .before .before .before .before .before .before .before .before .before .before .before .args .table .now) (c .before .before .before .before .before .before .before .before .run .kept .1 .1 .1 .1 .1 .1 .1 .0)) (c .before .before .before .before .before .before .before .before .before .before .before .before .before .before .before .before .before .before .before .args .epoch) (callWork (c .before .before .before .before .before .before .before .before .before .before .before .before .before .before .before .before .before .before .before .args .call) (c .before .before .before .before .before .before .before .before .before .before .before .before .before .before .before .before .before .before .before .args .epoch) (c .before .before .before .before .before .before .before .before .before .before .before .before .before .before .before .before .before .before .before .args .state .now) (tapeOf (c .before .before .before .before .before .before .before .before .before .before .before .before .before .before .before .before .before .before .before .args .answers .now))) (c .before .before .before .before .before .before .before .before .run .result) (c .before .before .before .before .before .before .before .before .run .last .1 .1 .1 .0) _ (c .before .before .before .before .before .before .before .before .run .last .1 .1 .1 .1 .1 .1 .1 .0) (c .before .before .before .before .before .before .before .before .before .before .before .before .before .counting .result) (c .before .before .before .before .before .before .before .before .before .before .before .before .before .counting .ensures) (c .before .before .before .before .before .before .before .before .run .ensures) (c .enum-told .given .1)
 
 -- src/call.rt:144:1
 same-length-10 : tie.Need-same-length-10
@@ -123,7 +123,7 @@ same-length-12 c = search needs
 
 -- src/call.rt:144:1
 returns-4 : tie.Need-returns-4
-returns-4 c = λ s. c .before .before .before .before .fail .ensures s ∙ failed-read (c .before .before .before .before .before .before .before .before .before .before .before .before .before .before .before .before .before .before .before .before .before .before .before .before .before .before .before .before .before .args .state .now) (callBase (c .before .before .before .before .before .before .before .before .before .before .before .before .before .before .before .before .before .before .before .before .before .before .before .before .before .before .before .before .before .args .call) (c .before .before .before .before .before .before .before .before .before .before .before .before .before .before .before .before .before .before .before .before .before .before .before .before .before .before .before .before .before .args .state .now)) s (c .before .before .before .before .before .before .before .before .before .before .before .before .before .before .before .before .before .before .before .before .before .before .before .before .before .before .before .before .before .args .table .now) ((c .before .before .before .before .before .before .before .before .before .before .before .before .before .before .before .before .before .before .run .last .1 .1 .1 .1 .1 .1 .1 .0) ++ (c .before .before .before .before .before .before .before .before .before .before .before .before .before .before .before .before .before .before .before .before .before .before .before .before .before .before .before .before .before .args .table .now)) (nothing (c .before .before .before .before .before .before .before .before .before .before .before .before .before .before .before .before .before .before .run .last .1 .1 .1 .1 .1 .1 .1 .0) (c .before .before .before .before .before .before .before .before .before .before .before .before .before .before .before .before .before .before .before .before .before .before .before .before .before .before .before .before .before .args .table .now) (c .before .before .before .before .before .before .before .before .before .before .before .before .before .before .before .before .before .before .run .kept .1 .1 .1 .1 .1 .1 .1 .0)) (c .before .before .before .before .before .before .before .before .before .before .before .before .before .before .before .before .before .before .before .before .before .before .before .before .before .before .before .before .before .args .epoch) (callWork (c .before .before .before .before .before .before .before .before .before .before .before .before .before .before .before .before .before .before .before .before .before .before .before .before .before .before .before .before .before .args .call) (c .before .before .before .before .before .before .before .before .before .before .before .before .before .before .before .before .before .before .before .before .before .before .before .before .before .before .before .before .before .args .epoch) (c .before .before .before .before .before .before .before .before .before .before .before .before .before .before .before .before .before .before .before .before .before .before .before .before .before .before .before .before .before .args .state .now) (tapeOf (c .before .before .before .before .before .before .before .before .before .before .before .before .before .before .before .before .before .before .before .before .before .before .before .before .before .before .before .before .before .args .answers .now))) (c .before .before .before .before .before .before .before .before .before .before .before .before .before .before .before .before .before .before .run .result) (c .before .before .before .before .before .before .before .before .before .before .before .before .before .before .before .before .before .before .run .last .1 .1 .1 .0) _ (c .before .before .before .before .before .before .before .before .before .before .before .before .before .before .before .before .before .before .run .last .1 .1 .1 .1 .1 .1 .1 .0) (c .before .before .before .before .before .before .before .before .before .before .before .before .before .before .before .before .before .before .before .before .counting .result) (c .before .before .before .before .before .before .before .before .before .before .before .before .before .before .before .before .before .before .before .before .counting .ensures) (c .before .before .before .before .before .before .before .before .before .before .before .before .before .before .before .before .before .before .run .ensures) _ (c .before .before .before .before .before .before .before .before .before .before .outcome .given .1) (sym (c .before .before .before .before .before .before .before .before .before .before .before .before .is-end .ensures) ∙ not-false _ (c .before .before .before .before .before .before .before .before .if1 .left))
+returns-4 c = λ s. c .before .before .before .before .fail .ensures s ∙ failed-read (c .before .before .before .before .before .before .before .before .before .before .before .before .before .before .before .before .before .before .before .before .before .before .before .before .before .before .before .before .before .args .state .now) (callBase (c .before .before .before .before .before .before .before .before .before .before .before .before .before .before .before .before .before .before .before .before .before .before .before .before .before .before .before .before .before .args .call) (c .before .before .before .before .before .before .before .before .before .before .before .before .before .before .before .before .before .before .before .before .before .before .before .before .before .before .before .before .before .args .state .now)) s (c .before .before .before .before .before .before .before .before .before .before .before .before .before .before .before .before .before .before .before .before .before .before .before .before .before .before .before .before .before .args .table .now) ((c .before .before .before .before .before .before .before .before .before .before .before .before .before .before .before .before .before .before .run .last .1 .1 .1 .1 .1 .1 .1 .0) ++ (c .before .before .before .before .before .before .before .before .before .before .before .before .before .before .before .before .before .before .before .before .before .before .before .before .before .before .before .before .before .args .table .now)) (nothing (c .before .before .before .before .before .before .before .before .before .before .before .before .before .before .before .before .before .before .run .last .1 .1 .1 .1 .1 .1 .1 .0) (c .before .before .before .before .before .before .before .before .before .before .before .before .before .before .before .before .before .before .before .before .before .before .before .before .before .before .before .before .before .args .table .now) (c .before .before .before .before .before .before .before .before .before .before .before .before .before .before .before .before .before .before .run .kept .1 .1 .1 .1 .1 .1 .1 .0)) (c .before .before .before .before .before .before .before .before .before .before .before .before .before .before .before .before .before .before .before .before .before .before .before .before .before .before .before .before .before .args .epoch) (callWork (c .before .before .before .before .before .before .before .before .before .before .before .before .before .before .before .before .before .before .before .before .before .before .before .before .before .before .before .before .before .args .call) (c .before .before .before .before .before .before .before .before .before .before .before .before .before .before .before .before .before .before .before .before .before .before .before .before .before .before .before .before .before .args .epoch) (c .before .before .before .before .before .before .before .before .before .before .before .before .before .before .before .before .before .before .before .before .before .before .before .before .before .before .before .before .before .args .state .now) (tapeOf (c .before .before .before .before .before .before .before .before .before .before .before .before .before .before .before .before .before .before .before .before .before .before .before .before .before .before .before .before .before .args .answers .now))) (c .before .before .before .before .before .before .before .before .before .before .before .before .before .before .before .before .before .before .run .result) (c .before .before .before .before .before .before .before .before .before .before .before .before .before .before .before .before .before .before .run .last .1 .1 .1 .0) _ (c .before .before .before .before .before .before .before .before .before .before .before .before .before .before .before .before .before .before .run .last .1 .1 .1 .1 .1 .1 .1 .0) (c .before .before .before .before .before .before .before .before .before .before .before .before .before .before .before .before .before .before .before .before .before .before .before .counting .result) (c .before .before .before .before .before .before .before .before .before .before .before .before .before .before .before .before .before .before .before .before .before .before .before .counting .ensures) (c .before .before .before .before .before .before .before .before .before .before .before .before .before .before .before .before .before .before .run .ensures) _ (c .before .before .before .before .before .before .before .before .before .before .outcome .given .1) (sym (c .before .before .before .before .before .before .before .before .before .before .before .before .is-end .ensures) ∙ not-false _ (c .before .before .before .before .before .before .before .before .if1 .left))
 
 -- src/call.rt:144:1
 same-length-13 : tie.Need-same-length-13
@@ -139,7 +139,7 @@ same-length-15 c = search needs
 
 -- src/call.rt:144:1
 returns-5 : tie.Need-returns-5
-returns-5 c = λ s. c .before .before .before .before .before .before .finish .ensures s ∙ done-read (c .before .before .before .before .before .before .before .before .before .before .before .before .before .before .before .before .before .before .before .before .before .before .before .before .before .before .before .before .before .before .args .state .now) (callBase (c .before .before .before .before .before .before .before .before .before .before .before .before .before .before .before .before .before .before .before .before .before .before .before .before .before .before .before .before .before .before .args .call) (c .before .before .before .before .before .before .before .before .before .before .before .before .before .before .before .before .before .before .before .before .before .before .before .before .before .before .before .before .before .before .args .state .now)) s (c .before .before .before .before .before .before .before .before .before .before .before .before .before .before .before .before .before .before .before .before .before .before .before .before .before .before .before .before .before .before .args .table .now) ((c .before .before .before .before .before .before .before .before .before .before .before .before .before .before .before .before .before .before .before .run .last .1 .1 .1 .1 .1 .1 .1 .0) ++ (c .before .before .before .before .before .before .before .before .before .before .before .before .before .before .before .before .before .before .before .before .before .before .before .before .before .before .before .before .before .before .args .table .now)) (nothing (c .before .before .before .before .before .before .before .before .before .before .before .before .before .before .before .before .before .before .before .run .last .1 .1 .1 .1 .1 .1 .1 .0) (c .before .before .before .before .before .before .before .before .before .before .before .before .before .before .before .before .before .before .before .before .before .before .before .before .before .before .before .before .before .before .args .table .now) (c .before .before .before .before .before .before .before .before .before .before .before .before .before .before .before .before .before .before .before .run .kept .1 .1 .1 .1 .1 .1 .1 .0)) (c .before .before .before .before .before .before .before .before .before .before .before .before .before .before .before .before .before .before .before .before .before .before .before .before .before .before .before .before .before .before .args .epoch) (callWork (c .before .before .before .before .before .before .before .before .before .before .before .before .before .before .before .before .before .before .before .before .before .before .before .before .before .before .before .before .before .before .args .call) (c .before .before .before .before .before .before .before .before .before .before .before .before .before .before .before .before .before .before .before .before .before .before .before .before .before .before .before .before .before .before .args .epoch) (c .before .before .before .before .before .before .before .before .before .before .before .before .before .before .before .before .before .before .before .before .before .before .before .before .before .before .before .before .before .before .args .state .now) (tapeOf (c .before .before .before .before .before .before .before .before .before .before .before .before .before .before .before .before .before .before .before .before .before .before .before .before .before .before .before .before .before .before .args .answers .now))) (c .before .before .before .before .before .before .before .before .before .before .before .before .before .before .before .before .before .before .before .run .result) (c .before .before .before .before .before .before .before .before .before .before .before .before .before .before .before .before .before .before .before .run .last .1 .1 .1 .0) _ (c .before .before .before .before .before .before .before .before .before .before .before .before .before .before .before .before .before .before .before .run .last .1 .1 .1 .1 .1 .1 .1 .0) (c .before .before .before .before .before .before .before .before .before .before .before .before .before .before .before .before .before .before .before .before .before .counting .result) (c .before .before .before .before .before .before .before .before .before .before .before .before .before .before .before .before .before .before .before .before .before .counting .ensures) (c .before .before .before .before .before .before .before .before .before .before .before .before .before .before .before .before .before .before .before .run .ensures) (c .before .before .before .before .before .before .before .before .before .before .before .enum-told2 .given .1) (sym (c .before .before .before .before .before .before .before .before .before .before .before .before .before .is-end .ensures) ∙ not-false _ (c .before .before .before .before .before .before .before .before .before .before .if2 .left))
+returns-5 c = λ s. c .before .before .before .before .before .before .finish .ensures s ∙ done-read (c .before .before .before .before .before .before .before .before .before .before .before .before .before .before .before .before .before .before .before .before .before .before .before .before .before .before .before .before .before .before .args .state .now) (callBase (c .before .before .before .before .before .before .before .before .before .before .before .before .before .before .before .before .before .before .before .before .before .before .before .before .before .before .before .before .before .before .args .call) (c .before .before .before .before .before .before .before .before .before .before .before .before .before .before .before .before .before .before .before .before .before .before .before .before .before .before .before .before .before .before .args .state .now)) s (c .before .before .before .before .before .before .before .before .before .before .before .before .before .before .before .before .before .before .before .before .before .before .before .before .before .before .before .before .before .before .args .table .now) ((c .before .before .before .before .before .before .before .before .before .before .before .before .before .before .before .before .before .before .before .run .last .1 .1 .1 .1 .1 .1 .1 .0) ++ (c .before .before .before .before .before .before .before .before .before .before .before .before .before .before .before .before .before .before .before .before .before .before .before .before .before .before .before .before .before .before .args .table .now)) (nothing (c .before .before .before .before .before .before .before .before .before .before .before .before .before .before .before .before .before .before .before .run .last .1 .1 .1 .1 .1 .1 .1 .0) (c .before .before .before .before .before .before .before .before .before .before .before .before .before .before .before .before .before .before .before .before .before .before .before .before .before .before .before .before .before .before .args .table .now) (c .before .before .before .before .before .before .before .before .before .before .before .before .before .before .before .before .before .before .before .run .kept .1 .1 .1 .1 .1 .1 .1 .0)) (c .before .before .before .before .before .before .before .before .before .before .before .before .before .before .before .before .before .before .before .before .before .before .before .before .before .before .before .before .before .before .args .epoch) (callWork (c .before .before .before .before .before .before .before .before .before .before .before .before .before .before .before .before .before .before .before .before .before .before .before .before .before .before .before .before .before .before .args .call) (c .before .before .before .before .before .before .before .before .before .before .before .before .before .before .before .before .before .before .before .before .before .before .before .before .before .before .before .before .before .before .args .epoch) (c .before .before .before .before .before .before .before .before .before .before .before .before .before .before .before .before .before .before .before .before .before .before .before .before .before .before .before .before .before .before .args .state .now) (tapeOf (c .before .before .before .before .before .before .before .before .before .before .before .before .before .before .before .before .before .before .before .before .before .before .before .before .before .before .before .before .before .before .args .answers .now))) (c .before .before .before .before .before .before .before .before .before .before .before .before .before .before .before .before .before .before .before .run .result) (c .before .before .before .before .before .before .before .before .before .before .before .before .before .before .before .before .before .before .before .run .last .1 .1 .1 .0) _ (c .before .before .before .before .before .before .before .before .before .before .before .before .before .before .before .before .before .before .before .run .last .1 .1 .1 .1 .1 .1 .1 .0) (c .before .before .before .before .before .before .before .before .before .before .before .before .before .before .before .before .before .before .before .before .before .before .before .before .counting .result) (c .before .before .before .before .before .before .before .before .before .before .before .before .before .before .before .before .before .before .before .before .before .before .before .before .counting .ensures) (c .before .before .before .before .before .before .before .before .before .before .before .before .before .before .before .before .before .before .before .run .ensures) (c .before .before .before .before .before .before .before .before .before .before .before .enum-told2 .given .1) (sym (c .before .before .before .before .before .before .before .before .before .before .before .before .before .is-end .ensures) ∙ not-false _ (c .before .before .before .before .before .before .before .before .before .before .if2 .left))
 
 pub run-twice-spec : {M : Type 1} → statement M
 run-twice-spec =
