@@ -14,4 +14,5 @@ pub mod WorkLeaves
 pub mod BatchTurns
 pub mod RunParts
 pub mod Bounded
+pub mod CallEnds
 pub mod Received
