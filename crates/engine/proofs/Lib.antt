@@ -11,6 +11,8 @@ pub mod Settled
 pub mod FaultCount
 pub mod WorkRanges
 pub mod WorkLeaves
+pub mod BatchTurns
+pub mod RunParts
 pub mod Bounded
 pub mod CallEnds
 pub mod Received
