@@ -8,6 +8,8 @@ pub mod Clearing
 pub mod Looping
 pub mod Works
 pub mod Settled
+pub mod Checked
+pub mod Creating
 pub mod FaultCount
 pub mod WorkRanges
 pub mod WorkLeaves
