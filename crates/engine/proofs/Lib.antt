@@ -1,7 +1,7 @@
 -- What is proved of the definitions, for this crate's proofs and for those above it.
 pub mod Updates
 pub mod Fails
-pub mod Checks
+pub mod CheckCases
 pub mod Refusals
 pub mod Skips
 pub mod Clearing

@@ -52,8 +52,8 @@ pub extern "C" fn hb_create(
     number_b: u64,
     state: &mut [u64],
 ) -> u64
-    ensures { λ r. ⌜ (r ≡ createReply (numbers n f look_ahead own key strategy start_epoch schedule number_a number_b) (now (state .entry)))
-        × (now (state .exit) ≡ createState (numbers n f look_ahead own key strategy start_epoch schedule number_a number_b) (now (state .entry))) ⌝ }
+    ensures { λ r. ⌜ (r ≡ createReply (numbers n f «look_ahead» own key strategy «start_epoch» schedule «number_a» «number_b») (now (state .entry)))
+        × (now (state .exit) ≡ createState (numbers n f «look_ahead» own key strategy «start_epoch» schedule «number_a» «number_b») (now (state .entry))) ⌝ }
 {
     let numbers = Numbers {
         nodes: n,
