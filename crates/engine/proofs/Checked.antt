@@ -7,10 +7,10 @@ use mathlib.Core.Bool.{Bool, true, false, cond, not}
 use lib.Dec.{eqb, leb, ltb}
 use lib.ListN.{length, take, drop, replicate}
 use lib.Seq.{length-take-le}
-use borrow.Author.Tests.{eqb-true, eq-eqb, ne-eqb, ltb-true, ltb-false, leb-false}
+use borrow.Author.Tests.{eqb-true, eq-eqb, ne-eqb, lt-ltb, le-ltb, lt-leb, le-leb, ltb-true, ltb-false, leb-false}
 use Rattle.steps.specs.Numbers.{lastEpoch}
 use Rattle.steps.specs.Table.{within, shapeOk, tableOk}
-use Rattle.steps.specs.Answers.{tapeOf}
+use Rattle.steps.specs.Answers.{Tape, tapeOf}
 use Rattle.steps.proofs.Chain.{shape-length}
 use Rattle.epoch.specs.declared.MessageContent.{MessageContent}
 use Rattle.state.specs.State.{nodes, currentEpoch, scratchOf, stateOk}
@@ -23,13 +23,13 @@ use Rattle.engine.specs.Shape.{Callable}
 
 -- TWO CHECKS, one after the other
 module _ (a b : ℕ) where
-  pub then-passed : a ≡ 0 → b ≡ thenCheck a b
+  pub then-passed : (k : ℕ) → a ≡ 0 → k ≡ b → k ≡ thenCheck a b
   unfolding thenCheck
-  then-passed e = rw e
+  then-passed k z e = rw z e
 
-  pub then-turned : (a ≡ 0 → ⊥) → a ≡ thenCheck a b
+  pub then-turned : (k : ℕ) → k ≡ a → (k ≡ 0 → ⊥) → k ≡ thenCheck a b
   unfolding thenCheck
-  then-turned h = rw (ne-eqb a 0 h)
+  then-turned k e h = rw (← e, ne-eqb k 0 h)
 
   -- where both pass
   pub then-both : thenCheck a b ≡ 0 → (a ≡ 0) × (b ≡ 0)
@@ -49,6 +49,54 @@ module _ (a b : ℕ) where
       go true z e = ap (within 3 4) (eqb-true a 0 z)
       go false z e = e
 
+-- EACH REPLY, by its test
+module _ (state : List ℕ) (scratch : ℕ) (answers : List ℕ) where
+  pub first-three : stateOk state ≡ false → 3 ≡ firstChecks state scratch answers
+  unfolding firstChecks
+  first-three e = rw e
+
+  module _ (ok : stateOk state ≡ true) where
+    pub first-four : scratch < scratchOf state → 4 ≡ firstChecks state scratch answers
+    unfolding firstChecks
+    first-four l = rw (ok, lt-ltb _ _ l)
+
+    module _ (room : scratchOf state ≤ scratch) where
+      pub first-five : tableOk (nodes state) answers ≡ false → 5 ≡ firstChecks state scratch answers
+      unfolding firstChecks
+      first-five e = rw (ok, le-ltb _ _ room, e)
+
+      pub first-none : tableOk (nodes state) answers ≡ true → 0 ≡ firstChecks state scratch answers
+      unfolding firstChecks
+      first-none e = rw (ok, le-ltb _ _ room, e)
+
+module _ (state : List ℕ) where
+  pub epoch-high : lastEpoch < currentEpoch state → 6 ≡ epochCheck state
+  unfolding epochCheck
+  epoch-high l = rw (lt-ltb _ _ l)
+
+  pub epoch-low : currentEpoch state ≤ lastEpoch → 0 ≡ epochCheck state
+  unfolding epochCheck
+  epoch-low l = rw (le-ltb _ _ l)
+
+module _ (sender content proposer item : ℕ) (state : List ℕ) where
+  pub message-sender : nodes state ≤ sender → 11 ≡ messageCheck sender content proposer item state
+  unfolding messageCheck
+  message-sender l = rw (le-leb _ _ l)
+
+  module _ (node : sender < nodes state) where
+    pub message-content : contentOk (nodes state) content proposer ≡ false → 7 ≡ messageCheck sender content proposer item state
+    unfolding messageCheck
+    message-content e = rw (lt-leb _ _ node, e)
+
+    module _ (ok : contentOk (nodes state) content proposer ≡ true) where
+      pub message-item : itemOk content item ≡ false → 7 ≡ messageCheck sender content proposer item state
+      unfolding messageCheck
+      message-item e = rw (lt-leb _ _ node, ok, e)
+
+      pub message-none : itemOk content item ≡ true → 0 ≡ messageCheck sender content proposer item state
+      unfolding messageCheck
+      message-none e = rw (lt-leb _ _ node, ok, e)
+
 -- WHAT THE REPLIES SAY
 module _ (state : List ℕ) (scratch : ℕ) (answers : List ℕ) where
   -- neither 3 nor 4
@@ -61,6 +109,9 @@ module _ (state : List ℕ) (scratch : ℕ) (answers : List ℕ) where
       go false b c x y e = never e
       go true true c x y e = never e
       go true false c x y e = (x, ltb-false _ _ y)
+
+  pub first-ok : firstChecks state scratch answers ≡ 0 → stateOk state ≡ true
+  first-ok e = first-past (ap (within 3 4) e) .0
 
   pub first-passed : firstChecks state scratch answers ≡ 0 → tableOk (nodes state) answers ≡ true
   unfolding firstChecks
@@ -186,3 +237,11 @@ pub cleared : (state scratch ys : List ℕ) (k : ℕ) → k ≡ scratchOf state 
     → ys ++ drop k scratch ≡ zeroed state scratch
 unfolding zeroed
 cleared state scratch ys k z h e = rw (e, length-take-le k scratch h, z)
+
+pub after-scratch : (r : ℕ) (state step scratch scratch′ : List ℕ) → scratch ≡ scratch′ → after r state scratch step ≡ after r state scratch′ step
+after-scratch r state step scratch scratch′ e = rw e
+
+-- the content that was read is the one that the numbers stand for
+pub same-content : (sender epoch proposer : ℕ) (state : List ℕ) (p : Tape) (scratch step : List ℕ) (c d : MessageContent) → c ≡ d
+    → conclude (handleMessage sender epoch proposer c state p) epoch state scratch step ≡ conclude (handleMessage sender epoch proposer d state p) epoch state scratch step
+same-content sender epoch proposer state p scratch step c d e = rw e

@@ -2,15 +2,15 @@
 use Prim.Native.Nat.{ℕ, _+_, _*_, _-_, _≤_, _<_}
 use native.Mathlib.Omega.{arith}
 use mathlib.Core.Path.{_≡_, refl, sym, ap, _∙_}
-use mathlib.Core.List.{List, [], _∷_, _++_}
-use mathlib.Core.Bool.{Bool, true, false, cond, not, _&&_, and-assoc}
-use lib.Dec.{eqb, leb, ltb}
+use mathlib.Core.List.{List, _++_}
+use mathlib.Core.Bool.{Bool, true, false, _&&_}
+use lib.Dec.{leb, ltb}
 use lib.ListN.{length, set, getD, replicate, replicate-append-replicate}
 use borrow.Author.Tests.{eq-eqb, ne-eqb, leb-true, ltb-true}
 use Rattle.steps.specs.Table.{within}
 use Rattle.state.specs.Schedule.{scheduleOk, usedFirst, usedSecond}
-use Rattle.state.specs.State.{headerLength, stateLength, allHold}
-use Rattle.state.proofs.Bools.{never, and-left, and-right, test-holds}
+use Rattle.state.specs.State.{stateLength, allHold}
+use Rattle.state.proofs.Bools.{and-right, test-holds}
 use Rattle.state.proofs.Window.{header-first}
 use Rattle.engine.specs.Create.{Numbers, numberTests, numbersOk, createdHeader, created, createReply, createState}
 

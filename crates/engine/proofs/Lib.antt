@@ -9,6 +9,7 @@ pub mod Looping
 pub mod Works
 pub mod Settled
 pub mod Checked
+pub mod WaysOfCalls
 pub mod Creating
 pub mod FaultCount
 pub mod WorkRanges

@@ -1,6 +1,5 @@
 // Create: the ten numbers in their ranges, and the state before any call.
 ghost use mathlib.Core.Path.{_≡_};
-ghost use mathlib.Core.Bool.{true};
 ghost use lib.ListN.{length};
 ghost use Rattle.state.specs.State.{stateLength};
 ghost use Rattle.engine.specs.Create.{numbersOk, created};

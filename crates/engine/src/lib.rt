@@ -118,7 +118,15 @@ pub extern "C" fn hb_message(
     ensures { λ r. ⌜ after r (now (state .exit)) (now (scratch .exit)) (now (step .exit))
         ≡ messageCall (now (state .entry)) (now (scratch .entry)) (now (answers .entry)) (now (step .entry)) sender epoch content proposer item ⌝ }
 {
-    let checked = message_checks(sender, content, proposer, item, state, scratch.len(), answers);
+    let checked = message_checks(
+        sender,
+        content,
+        proposer,
+        item,
+        state,
+        scratch.len(),
+        answers,
+    );
     if (NOT_A_STATE <= checked) & (checked <= SCRATCH_TOO_SHORT) {
         return checked;
     }

@@ -1,6 +1,5 @@
 // Propose and message that have passed their checks, after honey_badger.rs. What is left in scratch is cleared by the caller.
 ghost use mathlib.Core.Path.{_≡_};
-ghost use Prim.Native.Nat.{_<_};
 ghost use Rattle.steps.specs.Answers.{tapeOf};
 ghost use Rattle.state.specs.State.{currentEpoch};
 ghost use Rattle.engine.specs.HoneyBadger.{propose, handleMessage};
