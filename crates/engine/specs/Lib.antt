@@ -1,7 +1,9 @@
 pub mod HoneyBadger
 pub mod Calls
+pub mod Checks
 pub mod Work
 pub mod Create
+pub mod Shape
 pub mod Laws
 pub mod Opened
 pub mod Cases

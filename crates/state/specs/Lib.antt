@@ -1,3 +1,4 @@
 pub mod Schedule
 pub mod State
+pub mod Shape
 pub mod Opened

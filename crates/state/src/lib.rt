@@ -1,4 +1,7 @@
 // The words of the engine's state, after params.rs and the fields of `HoneyBadger` in honey_badger.rs.
+pub mod range;
+pub mod schedule;
+pub mod words;
 
 // How frequently threshold encryption is used.
 pub enum EncryptionSchedule {
