@@ -183,10 +183,8 @@ fn create(given: &[u64; 4112], state: &mut [u64], size: usize) -> usize
     );
     show_reply(reply);
     if reply == SUCCESS {
-        show_state(&state[..new], 0);
         return new;
     }
-    show_state(&state[..size], 0);
     size
 }
 
@@ -248,14 +246,16 @@ fn act(what: u8, given: &[u64], state: &mut [u64], scratch: &mut [u64], step: &m
     if what == b's' {
         show_reply(skip(given, state));
         show_state(state, 0);
+        return;
     }
-    if (what == b'p') | (what == b'm') {
-        show_reply(call(what, given, state, scratch, step));
-        let end = written(step);
-        show_step(step, end);
-        let right = scratch_right(scratch, state.len());
-        show_state(state, right);
+    if (what != b'p') & (what != b'm') {
+        return;
     }
+    show_reply(call(what, given, state, scratch, step));
+    let end = written(step);
+    show_step(step, end);
+    let right = scratch_right(scratch, state.len());
+    show_state(state, right);
 }
 
 // One line of the input. Answers how many words the state has afterwards.
@@ -270,7 +270,9 @@ fn line(text: &[u8], state: &mut [u64], size: usize, scratch: &mut [u64], step: 
     let mut given = [0u64; 4112];
     let m = numbers_in(text, &mut given);
     if what == b'c' {
-        return create(&given, state, size);
+        let new = create(&given, state, size);
+        show_state(&state[..new], 0);
+        return new;
     }
     let lent = size + 8;
     act(
@@ -284,12 +286,12 @@ fn line(text: &[u8], state: &mut [u64], size: usize, scratch: &mut [u64], step: 
 }
 
 // Reads a line with its newline; answers how many bytes it has, 0 at the end of the input.
-fn read_line(text: &mut [u8; 65536]) -> usize
-    ensures { λ r. ⌜ r ≤ 65536 ⌝ }
+fn read_line(text: &mut [u8]) -> usize
+    ensures { λ r. ⌜ r ≤ length (now (text .entry)) ⌝ }
 {
     let mut byte = [0u8; 1];
     let mut n: usize = 0;
-    while n < 65536 {
+    while n < text.len() {
         if io::read_full(STDIN_FILENO, &mut byte) == 0 {
             return n;
         }
