@@ -1,7 +1,6 @@
 -- Made by `fill` from answers.txt: change that and fill again.
-use mathlib.Core.Path.{_≡_, sym, ap, _∙_}
+use mathlib.Core.Path.{sym, ap, _∙_}
 use borrow.Author.Needs.{needs}
-use lib.ListN.{length}
 use Rattle.subset.specs.Words.{epochLength}
 use Rattle.state.specs.State.{withEpoch}
 use Rattle.state.proofs.WordsCode.{header-inside, with-kept}
