@@ -5,6 +5,7 @@ pub mod Checks
 pub mod Refusals
 pub mod Skips
 pub mod Clearing
+pub mod CommitCode
 pub mod Looping
 pub mod Works
 pub mod Settled
