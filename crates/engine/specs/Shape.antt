@@ -18,6 +18,7 @@ use Rattle.epoch.specs.Outcomes.{outcomeVerdict}
 use Rattle.epoch.specs.Epoch.{propose as proposeInEpoch, handleMessageContent}
 use Rattle.epoch.specs.Batch.{isReady, outputBatch}
 use Rattle.state.specs.State.{nodes, faultCount, inputAt, faultsAt, netOf, strategyOf, encryptedIn, scratchOf, stateOk}
+use Rattle.engine.specs.declared.create.Numbers as declared
 use Rattle.engine.specs.declared.honey_badger.Call.{Call}
 use Rattle.engine.specs.declared.honey_badger.Call.the-variants.{Propose, Message}
 use Rattle.engine.specs.declared.honey_badger.Trial.{Trial}
@@ -25,6 +26,7 @@ use Rattle.engine.specs.declared.honey_badger.Trial.the-variants.{NotRea
 use Rattle.engine.specs.declared.honey_badger.Tried.{Tried}
 use Rattle.engine.specs.declared.honey_badger.Batches.{Batches}
 use Rattle.engine.specs.declared.honey_badger.Ran.{Ran}
+use Rattle.engine.specs.Create.{Numbers, numbers}
 use Rattle.engine.specs.Work.{Worked, worked, workIn}
 
 -- A CALL OF ONE EPOCH, on its words: the own proposal, or a message
@@ -102,3 +104,8 @@ leftRan r x p words = record { state = worked x (r .next); verdict = outcomeVerd
 -- the fault count with k more
 unfoldable pub countMore : List ℕ → ℕ → List ℕ
 countMore w k = cond (leb (faultCount w + k) faultLimit) (set w faultsAt (faultCount w + k)) (set w faultsAt faultLimit)
+
+-- CREATE: the ten numbers that a struct of the code holds
+abbrev pub numbersOf : declared.Numbers → Numbers
+numbersOf c =
+    numbers (c .«nodes») (c .«faulty») (c .«ahead») (c .«own») (c .«key») (c .«strategy») (c .«epoch») (c .«schedule») (c .«first») (c .«second»)
