@@ -120,7 +120,7 @@ fn finish(
     if table.len() / 4 < counted.records() {
         return STEP_TABLE_TOO_SHORT;
     }
-    let mut place = answers[0] as usize;
+    let mut again = answers[0] as usize;
     let writing = counted.writing();
     let second = run(
         state,
@@ -128,13 +128,13 @@ fn finish(
         call,
         words,
         answers,
-        &mut place,
+        &mut again,
         writing,
         table,
     );
-    let next = second.next;
+    let current = second.next;
     writing.header(table, epoch);
-    commit(state, call, epoch, words, next);
+    commit(state, call, epoch, words, current);
     let faults = counted.faults;
     count_faults(state, faults.at);
     SUCCESS

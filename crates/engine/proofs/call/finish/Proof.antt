@@ -28,8 +28,8 @@ returns : tie.Need-returns
 returns c = λ s. done-full (c .before .before .before .before .before .before .args .state .now) (callBase (c .before .before .before .before .before .before .args .call) (c .before .before .before .before .before .before .args .state .now)) s (c .before .before .before .before .before .before .args .table .now) (c .before .before .before .before .before .before .args .epoch) (callWork (c .before .before .before .before .before .before .args .call) (c .before .before .before .before .before .before .args .epoch) (c .before .before .before .before .before .before .args .state .now) (tapeOf (c .before .before .before .before .before .before .args .answers .now))) (call-exact (c .before .before .before .before .before .before .args .state .now) (c .before .before .before .before .before .before .pre .0 .ok) (c .before .before .before .before .before .before .args .answers .now) (c .before .before .before .before .before .before .pre .0 .good) (c .before .before .before .before .before .before .args .call) (c .before .before .before .before .before .before .args .epoch)) (c .before .before .before .before .before .before .args .counted) (c .before .before .before .before .before .before .pre .1) (omega (arith, c .before .records .ensures, c .if1 .taken))
 
 -- src/call.rt:123:21
-shared-slice-read-place : tie.Need-shared-slice-read-place
-shared-slice-read-place c = search needs
+shared-slice-read-again : tie.Need-shared-slice-read-again
+shared-slice-read-again c = search needs
 
 -- src/call.rt:124:9
 writing-requires : tie.Need-writing-requires
@@ -75,7 +75,7 @@ finish-spec =
     (tie.spec
     records-requires
     returns
-    shared-slice-read-place
+    shared-slice-read-again
     writing-requires
     run-requires
     header-requires
