@@ -23,7 +23,7 @@ import quick  # noqa: E402
 
 ORACLE = ROOT / "oracle" / "target" / "release" / "oracle"
 LAYERS = {"steps": "", "decryption": "steps", "subset": "steps", "epoch": "decryption steps subset",
-          "engine": "decryption epoch steps subset"}
+          "state": "decryption epoch steps subset", "engine": "decryption epoch state steps subset"}
 
 JUDGE = """-- What a run of the original was given and what it made of it, and whether the definitions make the same of it.
 use Prim.Native.Nat.{ℕ, zero, suc, _+_, _*_}
@@ -31,7 +31,7 @@ use mathlib.Core.List.{List, [], _∷_, _++_}
 use mathlib.Core.Bool.{Bool, true, false, cond, _&&_}
 use lib.ListN.{length, drop, set, replicate}
 use lib.Dec.{eqb, leb}
-use Rattle.engine.specs.State.{stateLength}
+use Rattle.state.specs.State.{stateLength}
 use Rattle.engine.specs.Create.{Numbers, createReply, createState}
 use Rattle.engine.specs.Calls.{After, proposeCall, messageCall, skipReply, skipState, currentEpochResult, hasInputResult, receivedProposalsResult, faultCountResult}
 
@@ -165,7 +165,7 @@ def make_repository(folder):
     (judged / "specs").mkdir()
     (judged / "specs" / "Judge.antt").write_text(JUDGE)
     (judged / "specs" / "Opened.antt").write_text(opened(unfoldable(folder / "crates"), "judged"))
-    lines = [f"{layer}: {below}\n" for layer, below in LAYERS.items()] + ["judged: decryption engine epoch steps subset\n"]
+    lines = [f"{layer}: {below}\n" for layer, below in LAYERS.items()] + ["judged: decryption engine epoch state steps subset\n"]
     (folder / "crates.txt").write_text("".join(lines))
 
 

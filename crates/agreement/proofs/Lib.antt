@@ -14,6 +14,7 @@ pub mod Agreement
 pub mod Entries
 pub mod Eights
 pub mod Rule
+pub mod Operations
 pub mod Tests
 pub mod Pair
 pub mod Worked

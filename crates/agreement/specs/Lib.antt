@@ -2,6 +2,7 @@ pub mod History
 pub mod Claim
 pub mod Outputs
 pub mod Rule
+pub mod Operations
 pub mod Opened
 pub mod Pair
 pub mod PairRule

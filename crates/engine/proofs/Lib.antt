@@ -5,6 +5,7 @@ pub mod CheckCases
 pub mod Refusals
 pub mod Skips
 pub mod Clearing
+pub mod CommitCode
 pub mod Looping
 pub mod Works
 pub mod Settled
@@ -14,5 +15,8 @@ pub mod Creating
 pub mod FaultCount
 pub mod WorkRanges
 pub mod WorkLeaves
+pub mod BatchTurns
+pub mod RunParts
 pub mod Bounded
+pub mod CallEnds
 pub mod Received

@@ -7,9 +7,11 @@ use lib.ListN.{length, set}
 use lib.Dec.{leb}
 use Rattle.steps.specs.Numbers.{faultLimit}
 use Rattle.steps.specs.Table.{tableOk}
-use Rattle.steps.specs.Answers.{Tape}
-use Rattle.steps.specs.Steps.{out}
+use Rattle.steps.specs.Answers.{Tape, tapeOf}
+use Rattle.steps.specs.declared.step.Step.{Step}
+use Rattle.steps.specs.Steps.{out, putAll, counting}
 use Rattle.steps.specs.Runs.{Verdict, going, refused, Run, ends, onward, Left}
+use Rattle.subset.specs.Words.{epochLength}
 use Rattle.epoch.specs.declared.MessageContent.{MessageContent}
 use Rattle.epoch.specs.declared.epoch_state.Outcome.{Outcome}
 use Rattle.epoch.specs.Outcomes.{outcomeVerdict}
@@ -54,6 +56,18 @@ pub record Callable (call : Call) (state scratch answers : List ℕ) : Type 0 wh
   pub nodes : CallOk call (nodes state)
   pub room : scratchOf state ≤ length scratch
   pub first : 4 ≤ length answers
+
+-- the same for the words of its epoch
+pub record Runnable (call : Call) (state words answers : List ℕ) : Type 0 where
+  pub ok : stateOk state ≡ true
+  pub good : tableOk (nodes state) answers ≡ true
+  pub long : length words ≡ epochLength (nodes state)
+  pub nodes : CallOk call (nodes state)
+  pub first : 4 ≤ length answers
+
+-- the step that its first run counts
+abbrev pub countedBy : Call → ℕ → List ℕ → List ℕ → Step
+countedBy call epoch state answers = putAll (out counting []) (callWork call epoch state (tapeOf answers) .log) .step
 
 -- ONE BATCH of an epoch, if it is ready: whether it went out
 unfoldable pub tryOutputBatch : ℕ → ℕ → List ℕ → Tape → Run (List ℕ) Bool

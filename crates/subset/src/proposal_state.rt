@@ -2,12 +2,14 @@
 // gives a failure.
 ghost use mathlib.Core.Path.{_≡_};
 ghost use mathlib.Core.Bool.{true};
+ghost use Rattle.steps.specs.Numbers.{proposeFalse};
 ghost use Rattle.steps.specs.Answers.{tapeAt};
 ghost use Rattle.steps.specs.Steps.{out};
 ghost use Rattle.steps.specs.Runs.{leaves};
 ghost use Rattle.subset.specs.Proposal.{received, accepted, complete, asksAgreement, asksBroadcast, afterAgreement, instanceAnswer, afterValue, handleAgreement, handleBroadcast};
 ghost use Rattle.subset.specs.Outcomes.{transition, transitionOf, leftTold, left};
 use crate::ProposalState;
+use steps::numbers::PROPOSE_FALSE;
 use steps::numbers::PROPOSE_TRUE;
 use steps::reader::Answer;
 use steps::reader::Content;
@@ -220,6 +222,22 @@ impl ProposalState {
             Told::Refused => self.transition(Outcome::Refused, done),
             Told::Failed(number) => self.transition(Outcome::Failed(number), done),
         }
+    }
+
+    // Votes for rejecting the proposal, if still possible.
+    pub fn vote_false(
+        self,
+        error: u64,
+        proposer: u64,
+        answers: &[u64],
+        place: &mut usize,
+        step: Step,
+        words: &mut [u64],
+    ) -> Transition
+        ensures { λ r. ⌜ left r (tapeAt (now (answers .entry)) (now (place .exit))) (now (words .exit))
+            ≡ leaves (out step (now (words .entry))) (handleAgreement error proposer proposeFalse self (tapeAt (now (answers .entry)) (now (place .entry)))) ⌝ }
+    {
+        self.handle_agreement(error, proposer, PROPOSE_FALSE, answers, place, step, words)
     }
 
     // The broadcast's output, if it had one, is the value. While the agreement is undecided it earns a vote 1.

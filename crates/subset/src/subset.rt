@@ -18,7 +18,6 @@ use steps::network_info::NetworkInfo;
 use steps::numbers::AGREEMENT_MESSAGE;
 use steps::numbers::BROADCAST_MESSAGE;
 use steps::numbers::BROADCAST_PROPOSAL;
-use steps::numbers::PROPOSE_FALSE;
 use steps::reader::Content;
 use steps::step::Step;
 
@@ -186,17 +185,17 @@ fn vote_false(
     ensures { λ r. ⌜ leftPassed (now (epoch .exit)) r (tapeAt (now (answers .entry)) (now (place .exit))) (now (words .exit))
         ≡ leaves (out step (now (words .entry))) (voteFalse net error p (now (epoch .entry)) (tapeAt (now (answers .entry)) (now (place .entry)))) ⌝ }
 {
-    agreement_at(
-        epoch,
-        net,
-        error,
-        PROPOSE_FALSE,
-        p,
-        answers,
-        place,
-        step,
-        words,
-    )
+    let n = net.num_nodes;
+    let state = crate::words::load_proposal(epoch, n, p);
+    if !state.asks_agreement() {
+        return Passed {
+            outcome: Passing::Done,
+            step,
+        };
+    }
+    let moved = state.vote_false(error, p as u64, answers, place, step, words);
+    store_transition(epoch, n, p, moved);
+    pass(moved)
 }
 
 // A round of votes: for every proposer in rising order, HasValue included.

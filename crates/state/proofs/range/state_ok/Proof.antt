@@ -38,15 +38,15 @@ state-length-requires c κs = (header-sized (c .before .before .before .before .
 
 -- src/range.rt:119:9
 returns-3 : tie.Need-returns-3
-returns-3 c = ok-length (c .before .before .before .before .before .before .before .before .args .state .now) (λ e. c .if3 .taken (e ∙ sym (c .before .state-length .ensures)))
+returns-3 c = ok-length (c .before .before .before .before .before .before .before .before .args .state .now) (λ e. omega (arith, e, c .if3 .taken, c .before .state-length .ensures))
 
 -- src/range.rt:121:5
 epochs-in-range-requires : tie.Need-epochs-in-range-requires
-epochs-in-range-requires c κs = header-words (c .before .before .before .before .before .before .before .before .args .state .now) (sym (c .before .before .before .before .before .header-in-range .ensures) ∙ not-false _ (c .before .before .before .before .if2 .left)) (c .if3 .left ∙ c .before .state-length .ensures)
+epochs-in-range-requires c κs = header-words (c .before .before .before .before .before .before .before .before .args .state .now) (sym (c .before .before .before .before .before .header-in-range .ensures) ∙ not-false _ (c .before .before .before .before .if2 .left)) (omega (arith, c .if3 .left, c .before .state-length .ensures))
 
 -- src/range.rt:107:1
 returns-4 : tie.Need-returns-4
-returns-4 c = c .epochs-in-range .ensures ∙ ok-epochs (c .before .before .before .before .before .before .before .before .before .args .state .now) (sym (c .before .before .before .before .before .before .header-in-range .ensures) ∙ not-false _ (c .before .before .before .before .before .if2 .left)) (c .before .if3 .left ∙ c .before .before .state-length .ensures)
+returns-4 c = c .epochs-in-range .ensures ∙ ok-epochs (c .before .before .before .before .before .before .before .before .before .args .state .now) (sym (c .before .before .before .before .before .before .header-in-range .ensures) ∙ not-false _ (c .before .before .before .before .before .if2 .left)) (omega (arith, c .before .if3 .left, c .before .before .state-length .ensures))
 
 pub state-ok-spec : {M : Type 1} → statement M
 state-ok-spec =
