@@ -15,8 +15,8 @@ use Rattle.steps.proofs.Chain.{shape-length}
 use Rattle.epoch.specs.declared.MessageContent.{MessageContent}
 use Rattle.state.specs.State.{nodes, currentEpoch, scratchOf, stateOk}
 use Rattle.state.proofs.Bools.{never, and-right}
-use Rattle.engine.specs.declared.honey_badger.Call.the-variants.{Propose, Message}
-use Rattle.engine.specs.HoneyBadger.{propose, handleMessage}
+use Rattle.work.specs.declared.honey_badger.Call.the-variants.{Propose, Message}
+use Rattle.work.specs.HoneyBadger.{propose, handleMessage}
 use Rattle.engine.specs.Calls.{After, after, zeroed, conclude, contentOk, itemOk, contentOf, proposeAfter, proposeCall, messageCall}
 use Rattle.engine.specs.Checks.{thenCheck, firstChecks, epochCheck, messageCheck, proposeChecks, messageChecks, leavesScratch, afterChecks}
 use Rattle.engine.specs.Shape.{Callable}

@@ -6,9 +6,7 @@ ghost use Rattle.engine.specs.Create.{numbers, createReply, createState}
 
 pub mod call;
 pub mod checks;
-pub mod commit;
 pub mod create;
-pub mod honey_badger;
 pub mod operations;
 pub mod queries;
 
@@ -16,7 +14,6 @@ use crate::checks::content_of;
 use crate::checks::leaves_scratch;
 use crate::checks::message_checks;
 use crate::checks::propose_checks;
-use crate::commit::skip_to_epoch;
 use crate::create::Numbers;
 use crate::operations::handle_message;
 use crate::operations::propose;
@@ -36,6 +33,7 @@ use steps::numbers::NUMBERS_OUT_OF_RANGE;
 use steps::numbers::SUCCESS;
 use steps::numbers::TARGET_TOO_HIGH;
 use steps::numbers::WRONG_STATE_LENGTH;
+use work::commit::skip_to_epoch;
 
 // Makes the words a state: reply 0, 1 for numbers out of range, 2 for another length.
 #[no_mangle]

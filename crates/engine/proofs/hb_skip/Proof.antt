@@ -8,7 +8,7 @@ use Rattle.engine.proofs.hb_skip.Statement.{statement}
 use Rattle.engine.proofs.hb_skip.Tie as tie
 use Rattle.engine.proofs.hb_skip.Reads as reads
 use Rattle.engine.proofs.hb_skip.Lts as lts
-use Rattle.engine.proofs.commit.skip_to_epoch.Reads as skip-to-epoch-reads
+use Rattle.work.proofs.commit.skip_to_epoch.Reads as skip-to-epoch-reads
 use Rattle.state.proofs.range.state_ok.Reads as state-ok-reads
 
 -- src/lib.rt:149:9

@@ -5,16 +5,16 @@ use borrow.Author.Needs.{needs}
 use Rattle.steps.specs.Answers.{tapeOf}
 use Rattle.state.proofs.WordsCode.{header-inside}
 use Rattle.state.proofs.RangeCode.{ok-words}
-use Rattle.engine.specs.Shape.{callBase, callWork, countMore}
-use Rattle.engine.proofs.Bounded.{call-exact}
+use Rattle.work.specs.Shape.{callBase, callWork, countMore}
+use Rattle.work.proofs.Bounded.{call-exact}
 use Rattle.engine.proofs.CallEnds.{after-same, done-counted, done-full, done-written}
 use Rattle.engine.proofs.call.finish.Statement.{statement}
 use Rattle.engine.proofs.call.finish.Tie as tie
 use Rattle.engine.proofs.call.finish.Reads as reads
 use Rattle.engine.proofs.call.finish.Lts as lts
-use Rattle.engine.proofs.commit.commit.Reads as commit-reads
-use Rattle.engine.proofs.commit.count_faults.Reads as count-faults-reads
-use Rattle.engine.proofs.honey_badger.run.Reads as run-reads
+use Rattle.work.proofs.commit.commit.Reads as commit-reads
+use Rattle.work.proofs.commit.count_faults.Reads as count-faults-reads
+use Rattle.work.proofs.honey_badger.run.Reads as run-reads
 use Rattle.steps.proofs.step.Step.header.Reads as header-reads
 use Rattle.steps.proofs.step.Step.records.Reads as records-reads
 use Rattle.steps.proofs.step.Step.writing.Reads as writing-reads
