@@ -6,7 +6,7 @@ use Rattle.engine.proofs.checks.item_ok.Statement.{statement}
 use Rattle.engine.proofs.checks.item_ok.Tie as tie
 use Rattle.engine.proofs.checks.item_ok.Reads as reads
 use Rattle.engine.proofs.checks.item_ok.Lts as lts
-use Rattle.steps.proofs.answers.is_handle.Reads as is-handle-reads
+use Rattle.answers.proofs.is_handle.Reads as is-handle-reads
 
 -- src/checks.rt:82:9
 is-handle-requires : tie.Need-is-handle-requires
