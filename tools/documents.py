@@ -6,7 +6,7 @@ usage: tools/documents.py          (from anywhere; Python 3.9 or newer, no packa
     `steps/Table: tableOk, handle`        definitions or theorems of a file of specs/ or proofs/ of a crate; also `steps/proofs/Runs: …`
     `Settled: propose-settled`            the same where the crate is plain from the text: a file of that name in any crate
     `engine: create_f_third`              must-fail edits of a crate
-    `steps::answers::table_ok, is_handle` functions, types or constants of the code
+    `answers::table_ok, is_handle` functions, types or constants of the code
     `crates/…`, `docs/…`, `oracle/…`      files and folders
     `tableOk`, `propose-settled`, `hb_skip`   a single name: somewhere in the crates, the oracle or its stand-ins
 """

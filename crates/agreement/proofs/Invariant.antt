@@ -17,11 +17,11 @@ use Rattle.epoch.specs.Words.{isVacant}
 use Rattle.epoch.proofs.Told.{nothing}
 use Rattle.epoch.proofs.Batches.{Alive}
 use Rattle.state.specs.State.{headerLength, epochAt, nodes, ahead, currentEpoch, netOf, strategyOf, encryptedIn, epochWords, withEpoch}
-use Rattle.engine.specs.HoneyBadger.{updateEpoch}
+use Rattle.work.specs.HoneyBadger.{updateEpoch}
 use Rattle.rings.proofs.Places.{same-place}
 use Rattle.state.proofs.Window as window
 use Rattle.state.proofs.Window.{Shaped, with-head, with-shaped, with-same, with-other, set-shaped, set-words}
-use Rattle.engine.proofs.Updates.{update-shaped, update-head, update-current, update-kept, update-next}
+use Rattle.work.proofs.Updates.{update-shaped, update-head, update-current, update-kept, update-next}
 use Rattle.agreement.proofs.Handout.{Tk}
 
 -- a place that was cleared

@@ -30,7 +30,7 @@ use Rattle.epoch.specs.Batch.{isReady, decryptedFrom, isReadyIn, isRead, output
 use Rattle.epoch.proofs.Told.{nothing, fivesAmong, Quiet, shareOf, Told, Ready, EpochLaws}
 use Rattle.epoch.proofs.Batches.{Alive, alive-new, alive-propose, alive-message}
 use Rattle.state.specs.State.{nodes, faulty, ahead, currentEpoch, inputAt, netOf, strategyOf, encryptedIn, epochWords, withEpoch}
-use Rattle.engine.specs.HoneyBadger.{updateEpoch, epochStateMut, inEpoch, tryOutputBatches, outputBatches, propose, handleMessage}
+use Rattle.work.specs.HoneyBadger.{updateEpoch, epochStateMut, inEpoch, tryOutputBatches, outputBatches, propose, handleMessage}
 use Rattle.steps.specs.Batches.{Batch}
 use Rattle.agreement.specs.History.{unreadableIn}
 use Rattle.state.proofs.Window.{words-long, with-same}

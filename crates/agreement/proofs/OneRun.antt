@@ -26,13 +26,14 @@ use Rattle.steps.specs.declared.reader.Content.the-variants.{Broadcast, Agreeme
 use Rattle.epoch.specs.declared.MessageContent.the-variants.{Subset, DecryptionShare}
 use Rattle.epoch.proofs.Told.{fivesAmong, shareOf, EpochLaws}
 use Rattle.state.specs.State.{nodesAt, aheadAt, nodes, faulty, ahead, currentEpoch, faultCount, faultsAt, netOf, strategyOf, encryptedIn, epochWords, stateOk}
-use Rattle.engine.specs.HoneyBadger.{skipToEpoch, propose, handleMessage}
+use Rattle.work.specs.HoneyBadger.{skipToEpoch, propose, handleMessage}
 use Rattle.engine.specs.Calls.{countFaults, proposeCall, contentOk, contentOf, messageCall, skipReply, skipState}
-use Rattle.engine.specs.Laws.{Skipped}
+use Rattle.work.specs.Laws.{Skipped}
 use Rattle.steps.specs.Batches.{Batch, batchesOf, fivesOf}
 use Rattle.agreement.specs.History.{Call, turnOf, stateAfter, turns, noneFails, Event, event, eventsOf, currentAfter, history, taken, decrypted, propose as proposing, message as messaging, skip as skipping}
 use Rattle.agreement.specs.Rule.{stateAfterAll, speaks}
-use Rattle.engine.proofs.Skips.{skip-stays, skip-moves, skip-state}
+use Rattle.work.proofs.Skips.{skip-stays, skip-moves}
+use Rattle.engine.proofs.Refusals.{skip-state}
 use Rattle.agreement.proofs.Shown.{batchesAmong, batches-read, fives-read}
 use Rattle.agreement.proofs.Handout.{Tk, textsOf, Hand, handout-later, Dealt, dealt-map, AllDealt}
 use Rattle.agreement.proofs.Invariant.{zeros-vacant, Slot, vacant, Sim, sim-set}

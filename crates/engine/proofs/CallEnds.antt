@@ -21,13 +21,14 @@ use Rattle.subset.specs.Words.{epochLength}
 use Rattle.state.specs.State.{nodes, scratchOf, stateOk}
 use Rattle.state.proofs.WordsCode.{place-inside}
 use Rattle.state.proofs.RangeCode.{ok-words}
-use Rattle.engine.specs.declared.honey_badger.Ran.{Ran}
+use Rattle.work.specs.declared.honey_badger.Ran.{Ran}
 use Rattle.engine.specs.Calls.{after, zeroed, countFaults, isEnd, concludeAs, conclude}
-use Rattle.engine.specs.Work.{Worked, worked, committed, settled, allRead, asDone}
-use Rattle.engine.specs.Shape.{leftRan, countMore}
+use Rattle.work.specs.Work.{Worked, worked, committed}
+use Rattle.engine.specs.Shape.{settled, allRead, asDone}
+use Rattle.work.specs.Shape.{leftRan, countMore}
 use Rattle.engine.proofs.Refusals.{scratch-is}
 use Rattle.engine.proofs.Settled.{count-none}
-use Rattle.engine.proofs.Bounded.{CountedExactly}
+use Rattle.work.proofs.Bounded.{CountedExactly}
 
 -- THE END of a chain
 pub end-zero : (t : List ℕ) → true ≡ isEnd (chain t 0)

@@ -10,7 +10,7 @@ use Rattle.steps.specs.Numbers.{lastEpoch}
 use Rattle.steps.specs.Answers.{tapeOf}
 use Rattle.steps.specs.Table.{tableOk}
 use Rattle.state.specs.State.{nodes, currentEpoch, scratchOf, stateOk}
-use Rattle.engine.specs.HoneyBadger.{propose, handleMessage}
+use Rattle.work.specs.HoneyBadger.{propose, handleMessage}
 use Rattle.engine.specs.Calls.{After, after, zeroed, conclude, proposeAfter, contentOk, itemOk, contentOf, messageCall}
 
 -- by a test's two outcomes

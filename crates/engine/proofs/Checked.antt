@@ -15,10 +15,10 @@ use Rattle.steps.proofs.Chain.{shape-length}
 use Rattle.epoch.specs.declared.MessageContent.{MessageContent}
 use Rattle.state.specs.State.{nodes, currentEpoch, scratchOf, stateOk}
 use Rattle.state.proofs.Bools.{never, and-right}
-use Rattle.engine.specs.declared.honey_badger.Call.the-variants.{Propose, Message}
-use Rattle.engine.specs.HoneyBadger.{propose, handleMessage}
+use Rattle.work.specs.declared.honey_badger.Call.the-variants.{Propose, Message}
+use Rattle.work.specs.HoneyBadger.{propose, handleMessage}
 use Rattle.engine.specs.Calls.{After, after, zeroed, conclude, contentOk, itemOk, contentOf, proposeAfter, proposeCall, messageCall}
-use Rattle.engine.specs.Checks.{thenCheck, firstChecks, epochCheck, messageCheck, proposeChecks, messageChecks, afterChecks}
+use Rattle.engine.specs.Checks.{thenCheck, firstChecks, epochCheck, messageCheck, proposeChecks, messageChecks, leavesScratch, afterChecks}
 use Rattle.engine.specs.Shape.{Callable}
 
 -- TWO CHECKS, one after the other
@@ -41,12 +41,12 @@ module _ (a b : ℕ) where
       go false z e = never (sym (eq-eqb a 0 e) ∙ z)
 
   -- a reply that the first has not is the second's
-  pub then-past : within 3 4 (thenCheck a b) ≡ false → within 3 4 a ≡ false
+  pub then-past : leavesScratch (thenCheck a b) ≡ false → leavesScratch a ≡ false
   unfolding thenCheck
   then-past e = go (eqb a 0) refl e
     where
-      go : (t : Bool) → eqb a 0 ≡ t → within 3 4 (cond t b a) ≡ false → within 3 4 a ≡ false
-      go true z e = ap (within 3 4) (eqb-true a 0 z)
+      go : (t : Bool) → eqb a 0 ≡ t → leavesScratch (cond t b a) ≡ false → leavesScratch a ≡ false
+      go true z e = ap (leavesScratch) (eqb-true a 0 z)
       go false z e = e
 
 -- EACH REPLY, by its test
@@ -100,18 +100,18 @@ module _ (sender content proposer item : ℕ) (state : List ℕ) where
 -- WHAT THE REPLIES SAY
 module _ (state : List ℕ) (scratch : ℕ) (answers : List ℕ) where
   -- neither 3 nor 4
-  pub first-past : within 3 4 (firstChecks state scratch answers) ≡ false → (stateOk state ≡ true) × (scratchOf state ≤ scratch)
+  pub first-past : leavesScratch (firstChecks state scratch answers) ≡ false → (stateOk state ≡ true) × (scratchOf state ≤ scratch)
   unfolding firstChecks
   first-past e = go (stateOk state) (ltb scratch (scratchOf state)) (tableOk (nodes state) answers) refl refl e
     where
-      go : (a b c : Bool) → stateOk state ≡ a → ltb scratch (scratchOf state) ≡ b → within 3 4 (cond (not a) 3 (cond b 4 (cond (not c) 5 0))) ≡ false
+      go : (a b c : Bool) → stateOk state ≡ a → ltb scratch (scratchOf state) ≡ b → leavesScratch (cond (not a) 3 (cond b 4 (cond (not c) 5 0))) ≡ false
           → (stateOk state ≡ true) × (scratchOf state ≤ scratch)
       go false b c x y e = never e
       go true true c x y e = never e
       go true false c x y e = (x, ltb-false _ _ y)
 
   pub first-ok : firstChecks state scratch answers ≡ 0 → stateOk state ≡ true
-  first-ok e = first-past (ap (within 3 4) e) .0
+  first-ok e = first-past (ap (leavesScratch) e) .0
 
   pub first-passed : firstChecks state scratch answers ≡ 0 → tableOk (nodes state) answers ≡ true
   unfolding firstChecks
@@ -147,7 +147,7 @@ module _ (state scratch answers : List ℕ) where
   pub propose-callable : proposeChecks state (length scratch) answers ≡ 0 → Callable Propose state scratch answers
   propose-callable e =
       let f = then-both _ _ e .0 in
-      let p = first-past state (length scratch) answers (ap (within 3 4) f) in
+      let p = first-past state (length scratch) answers (ap (leavesScratch) f) in
       let g = first-passed state (length scratch) answers f in
       record { ok = p .0; good = g; nodes = tt; room = p .1; first = table-first _ _ g }
 
@@ -155,7 +155,7 @@ module _ (state scratch answers : List ℕ) where
       → Callable (Message sender proposer c) state scratch answers
   message-callable sender content proposer item c e =
       let b = then-both _ _ e in
-      let p = first-past state (length scratch) answers (ap (within 3 4) (b .0)) in
+      let p = first-past state (length scratch) answers (ap (leavesScratch) (b .0)) in
       let g = first-passed state (length scratch) answers (b .0) in
       record { ok = p .0; good = g; nodes = message-passed sender content proposer item state (then-both _ _ (b .1) .0); room = p .1; first = table-first _ _ g }
 
@@ -215,16 +215,16 @@ module _ (state scratch step : List ℕ) (run : After) {call : After} {checks : 
   by-reply = ap (λ k. afterChecks k state scratch step run) e ∙ sym is
 
   -- 3 and 4
-  pub ends-first : within 3 4 r ≡ true → after r state scratch step ≡ call
+  pub ends-first : leavesScratch r ≡ true → after r state scratch step ≡ call
   unfolding afterChecks
   ends-first t = go (eqb r 0) refl ∙ by-reply
     where
-      go : (z : Bool) → eqb r 0 ≡ z → after r state scratch step ≡ cond z run (cond (within 3 4 r) (after r state scratch step) (after r state (zeroed state scratch) step))
-      go true z = never (sym t ∙ ap (within 3 4) (eqb-true r 0 z))
+      go : (z : Bool) → eqb r 0 ≡ z → after r state scratch step ≡ cond z run (cond (leavesScratch r) (after r state scratch step) (after r state (zeroed state scratch) step))
+      go true z = never (sym t ∙ ap (leavesScratch) (eqb-true r 0 z))
       go false z = rw t
 
   -- the other checks
-  pub ends-turned : within 3 4 r ≡ false → (r ≡ 0 → ⊥) → after r state (zeroed state scratch) step ≡ call
+  pub ends-turned : leavesScratch r ≡ false → (r ≡ 0 → ⊥) → after r state (zeroed state scratch) step ≡ call
   unfolding afterChecks
   ends-turned t n = rw (t, ne-eqb r 0 n) at by-reply
 

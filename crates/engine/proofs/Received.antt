@@ -11,7 +11,7 @@ use Rattle.subset.proofs.Ranges.{limit-own}
 use Rattle.epoch.specs.Orders.{receivedBits}
 use Rattle.epoch.proofs.Orders.{received-word}
 use Rattle.state.specs.State.{nodes, currentEpoch, epochWords, stateOk}
-use Rattle.engine.specs.HoneyBadger.{receivedProposals}
+use Rattle.work.specs.HoneyBadger.{receivedProposals}
 use Rattle.state.proofs.RangesState.{words-in-range}
 
 -- the accepted bits are those of nodes

@@ -12,12 +12,12 @@ use Rattle.steps.specs.Numbers.{lastEpoch}
 use Rattle.steps.specs.Answers.{tapeOf}
 use Rattle.steps.specs.Runs.{Verdict, going, refused, failed, numberOf, Run}
 use Rattle.state.specs.State.{nodes, currentEpoch, faultCount, scratchLength, scratchOf, stateLength, stateOk}
-use Rattle.engine.specs.HoneyBadger.{hasInput, receivedProposals}
+use Rattle.work.specs.HoneyBadger.{skipToEpoch, hasInput, receivedProposals}
 use Rattle.engine.specs.Calls.{After, after, zeroed, isEnd, concludeAs, conclude, proposeAfter, proposeCall, messageCall, skipReply, skipState, queryReply, currentEpochResult, hasInputResult, receivedProposalsResult, faultCountResult}
 use Rattle.engine.specs.Create.{Numbers, numbersOk, createReply, createState}
 use Rattle.engine.specs.Laws.{isRefusal, oneOf, proposeFailures, proposeReplies, messageFailures, messageReplies, Promised}
 use Rattle.state.proofs.Bools.{never}
-use Rattle.engine.proofs.Fails.{Meant, Only, only-propose, only-message}
+use Rattle.work.proofs.Fails.{Meant, Only, only-propose, only-message}
 use Rattle.engine.proofs.CheckCases.{by-branch, by-propose, by-message}
 use Rattle.state.proofs.RangesState.{shaped}
 
@@ -208,3 +208,12 @@ query-replies w = go (stateOk w)
     go : (t : Bool) → oneOf (0 ∷ 3 ∷ []) (cond t 0 3) ≡ true
     go true = refl
     go false = refl
+
+-- SKIP: its reply depends on the target and on whether the state is one, and with reply 0 it is this skip
+pub skip-reply : (target : ℕ) (w v : List ℕ) → stateOk w ≡ stateOk v → skipReply target w ≡ skipReply target v
+unfolding skipReply
+skip-reply target w v h = rw h
+
+pub skip-state : (target : ℕ) (w : List ℕ) → skipReply target w ≡ 0 → skipState target w ≡ skipToEpoch target w
+unfolding skipState
+skip-state target w h = rw h

@@ -15,11 +15,12 @@ use Rattle.steps.specs.Steps.{fault, faults}
 use Rattle.steps.specs.Runs.{going, Run, ends, before, inside}
 use Rattle.epoch.specs.declared.MessageContent.{MessageContent}
 use Rattle.state.specs.State.{ahead, currentEpoch, faultCount, inputAt, faultsAt, netOf, stateOk}
-use Rattle.engine.specs.HoneyBadger.{propose, handleMessage}
+use Rattle.work.specs.HoneyBadger.{propose, handleMessage}
 use Rattle.engine.specs.Calls.{countFaults, conclude}
-use Rattle.engine.specs.Work.{proposeWork, messageWork, committed, settled}
+use Rattle.work.specs.Work.{proposeWork, messageWork, committed}
+use Rattle.engine.specs.Shape.{settled}
 use Rattle.state.proofs.RangesState.{header-ok}
-use Rattle.engine.proofs.Works.{propose-apart, message-apart}
+use Rattle.work.proofs.Works.{propose-apart, message-apart}
 
 -- the runs that `proposeAfter` and `messageCall` conclude
 module _ (state : List ℕ) (ok : stateOk state ≡ true) (p : Tape) (scratch step : List ℕ) where

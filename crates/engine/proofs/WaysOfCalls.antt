@@ -11,11 +11,12 @@ use Rattle.steps.specs.Steps.{fault}
 use Rattle.steps.specs.Runs.{going, ends, before}
 use Rattle.epoch.specs.declared.MessageContent.{MessageContent}
 use Rattle.state.specs.State.{ahead, currentEpoch, netOf, stateOk}
-use Rattle.engine.specs.declared.honey_badger.Call.the-variants.{Propose, Message}
-use Rattle.engine.specs.HoneyBadger.{propose, handleMessage}
+use Rattle.work.specs.declared.honey_badger.Call.the-variants.{Propose, Message}
+use Rattle.work.specs.HoneyBadger.{propose, handleMessage}
 use Rattle.engine.specs.Calls.{conclude}
-use Rattle.engine.specs.Work.{proposeWork, messageWork, settled}
-use Rattle.engine.specs.Shape.{callWork, callBase}
+use Rattle.work.specs.Work.{proposeWork, messageWork}
+use Rattle.engine.specs.Shape.{settled}
+use Rattle.work.specs.Shape.{callWork, callBase}
 use Rattle.engine.proofs.Settled.{propose-settled, message-settled}
 
 module _ (state : List ℕ) (ok : stateOk state ≡ true) (p : Tape) (scratch step : List ℕ) where

@@ -13,7 +13,7 @@ use Rattle.epoch.specs.declared.MessageContent.{MessageContent}
 use Rattle.steps.specs.declared.reader.Content.the-variants.{Broadcast, Agreement}
 use Rattle.epoch.specs.declared.MessageContent.the-variants.{Subset, DecryptionShare}
 use Rattle.state.specs.State.{nodes, currentEpoch, faultCount, scratchOf, faultsAt, stateOk}
-use Rattle.engine.specs.HoneyBadger.{propose, handleMessage, skipToEpoch, hasInput, receivedProposals}
+use Rattle.work.specs.HoneyBadger.{propose, handleMessage, skipToEpoch, hasInput, receivedProposals}
 
 -- a call's reply, and the lent words afterwards
 pub record After : Type 0 where

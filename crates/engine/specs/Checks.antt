@@ -2,7 +2,7 @@
 -- Nobody has to believe these: proofs/Checked.antt proves that with what follows them they are the calls of Calls.antt.
 use Prim.Native.Nat.{ℕ}
 use mathlib.Core.List.{List}
-use mathlib.Core.Bool.{cond, not}
+use mathlib.Core.Bool.{Bool, cond, not}
 use lib.Dec.{eqb, leb, ltb}
 use Rattle.steps.specs.Numbers.{success, notAState, scratchTooShort, answersMalformed, epochTooHigh, messageMalformed, unknownSender, lastEpoch}
 use Rattle.steps.specs.Table.{within, tableOk}
@@ -39,8 +39,12 @@ abbrev pub messageChecks : ℕ → ℕ → ℕ → ℕ → List ℕ → ℕ → 
 messageChecks sender content proposer item state scratch answers =
     thenCheck (firstChecks state scratch answers) (thenCheck (messageCheck sender content proposer item state) (epochCheck state))
 
+-- 3 and 4
+abbrev pub leavesScratch : ℕ → Bool
+leavesScratch reply = within notAState scratchTooShort reply
+
 -- what a call comes to by the reply of its checks: 3 and 4 leave scratch, the others zero it
 unfoldable pub afterChecks : ℕ → List ℕ → List ℕ → List ℕ → After → After
 afterChecks reply state scratch step run =
     cond (eqb reply success) run
-    (cond (within notAState scratchTooShort reply) (after reply state scratch step) (after reply state (zeroed state scratch) step))
+    (cond (leavesScratch reply) (after reply state scratch step) (after reply state (zeroed state scratch) step))

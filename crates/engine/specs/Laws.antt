@@ -48,16 +48,3 @@ pub record Promised (replies state scratch step : List ℕ) (r : After) : Type 0
   -- is untouched."
   pub zeros : r .scratch ≡ cond (oneOf (notAState ∷ scratchTooShort ∷ []) (r .reply)) scratch (zeroed state scratch)
   pub room : oneOf (notAState ∷ scratchTooShort ∷ []) (r .reply) ≡ false → scratchOf state ≤ length scratch
-
--- of a skip from state w to an epoch above the current one, which leaves v
-pub record Skipped (target : ℕ) (w v : List ℕ) : Type 0 where
-  pub long : length v ≡ length w
-  pub epoch : currentEpoch v ≡ target
-  pub input : input v ≡ 0
-  -- the rest of the header stays
-  pub header : (i : ℕ) → i < headerLength → i ≢ epochAt → i ≢ inputAt → getD v i 0 ≡ getD w i 0
-  -- an epoch that was in the state stays as it is where it is not below the target, else nothing is left of it
-  pub kept : (e : ℕ) → target ≤ e → e < currentEpoch w + ahead w + 1 → epochWords v e ≡ epochWords w e
-  pub cleared : (e : ℕ) → currentEpoch w ≤ e → e < target → e < currentEpoch w + ahead w + 1 → epochWords v e ≡ replicate (epochLength (nodes w)) 0
-  -- an epoch that comes into the state has not begun
-  pub vacant : (e : ℕ) → currentEpoch w + ahead w + 1 ≤ e → e < target + ahead w + 1 → epochWords v e ≡ replicate (epochLength (nodes w)) 0

@@ -1,7 +1,5 @@
-pub mod HoneyBadger
 pub mod Calls
 pub mod Checks
-pub mod Work
 pub mod Create
 pub mod Shape
 pub mod Laws

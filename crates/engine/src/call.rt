@@ -13,12 +13,9 @@ ghost use Rattle.subset.specs.Words.{epochLength};
 ghost use Rattle.state.specs.State.{nodes, stateOk};
 ghost use Rattle.state.specs.Shape.{StateWords};
 ghost use Rattle.engine.specs.Calls.{after, zeroed, isEnd, conclude};
-ghost use Rattle.engine.specs.Work.{worked, settled, allRead, asDone};
-ghost use Rattle.engine.specs.Shape.{callWork, callBase, Callable, Runnable, countedBy};
-use crate::commit::commit;
-use crate::commit::count_faults;
-use crate::honey_badger::Call;
-use crate::honey_badger::run;
+ghost use Rattle.work.specs.Work.{worked};
+ghost use Rattle.work.specs.Shape.{callWork, callBase};
+ghost use Rattle.engine.specs.Shape.{settled, allRead, asDone, Callable, Runnable, countedBy};
 use epoch::epoch_state::Outcome;
 use state::words::NODES_AT;
 use state::words::epoch_length;
@@ -28,6 +25,10 @@ use steps::numbers::STEP_TABLE_TOO_SHORT;
 use steps::numbers::SUCCESS;
 use steps::numbers::UNEXPECTED_HB_MESSAGE_EPOCH;
 use steps::step::Step;
+use work::commit::commit;
+use work::commit::count_faults;
+use work::honey_badger::Call;
+use work::honey_badger::run;
 
 // Whether no answer is left unread.
 fn is_end(answers: &[u64], place: usize) -> bool
@@ -120,7 +121,7 @@ fn finish(
     if table.len() / 4 < counted.records() {
         return STEP_TABLE_TOO_SHORT;
     }
-    let mut place = answers[0] as usize;
+    let mut again = answers[0] as usize;
     let writing = counted.writing();
     let second = run(
         state,
@@ -128,13 +129,13 @@ fn finish(
         call,
         words,
         answers,
-        &mut place,
+        &mut again,
         writing,
         table,
     );
-    let next = second.next;
+    let current = second.next;
     writing.header(table, epoch);
-    commit(state, call, epoch, words, next);
+    commit(state, call, epoch, words, current);
     let faults = counted.faults;
     count_faults(state, faults.at);
     SUCCESS

@@ -1,16 +1,19 @@
 // The checks of propose and message, in document 01's order. They read alone: a call that they turn down has changed nothing.
 // Each answers the reply that turns the call down, or 0.
 ghost use mathlib.Core.Path.{_≡_};
+ghost use Prim.Native.Nat.{_≤_};
+ghost use lib.ListN.{length};
+ghost use Rattle.state.specs.State.{headerLength};
 ghost use Rattle.engine.specs.Calls.{contentOk, itemOk, contentOf};
-ghost use Rattle.engine.specs.Checks.{firstChecks, proposeChecks, messageChecks};
+ghost use Rattle.engine.specs.Checks.{firstChecks, epochCheck, proposeChecks, messageChecks, leavesScratch};
+use answers::is_handle;
+use answers::table_ok;
 use epoch::MessageContent;
 use state::range::scratch_length;
 use state::range::state_ok;
 use state::words::AHEAD_AT;
 use state::words::EPOCH_AT;
 use state::words::NODES_AT;
-use steps::answers::is_handle;
-use steps::answers::table_ok;
 use steps::numbers::AGREEMENT_CONTENT;
 use steps::numbers::ANSWERS_MALFORMED;
 use steps::numbers::BROADCAST_CONTENT;
@@ -42,6 +45,17 @@ fn first_checks(state: &[u64], scratch: usize, answers: &[u64]) -> u64
     SUCCESS
 }
 
+// 6.
+fn epoch_check(state: &[u64]) -> u64
+    requires { ⌜ headerLength ≤ length (now state) ⌝ }
+    ensures { λ r. ⌜ r ≡ epochCheck (now (state .entry)) ⌝ }
+{
+    if LAST_EPOCH < state[EPOCH_AT] {
+        return EPOCH_TOO_HIGH;
+    }
+    SUCCESS
+}
+
 // Propose: 3, 4, 5, 6.
 pub fn propose_checks(state: &[u64], scratch: usize, answers: &[u64]) -> u64
     ensures { λ r. ⌜ r ≡ proposeChecks (now (state .entry)) scratch (now (answers .entry)) ⌝ }
@@ -50,10 +64,7 @@ pub fn propose_checks(state: &[u64], scratch: usize, answers: &[u64]) -> u64
     if first != SUCCESS {
         return first;
     }
-    if LAST_EPOCH < state[EPOCH_AT] {
-        return EPOCH_TOO_HIGH;
-    }
-    SUCCESS
+    epoch_check(state)
 }
 
 // Whether the content is one of the three, and the proposer a node.
@@ -99,10 +110,14 @@ pub fn message_checks(
     if !item_ok(content, item) {
         return MESSAGE_MALFORMED;
     }
-    if LAST_EPOCH < state[EPOCH_AT] {
-        return EPOCH_TOO_HIGH;
-    }
-    SUCCESS
+    epoch_check(state)
+}
+
+// Whether a call that its checks have turned down leaves scratch: 3 and 4 do, before they have passed nothing is known of its length.
+pub fn leaves_scratch(reply: u64) -> bool
+    ensures { λ r. ⌜ r ≡ leavesScratch reply ⌝ }
+{
+    (NOT_A_STATE <= reply) & (reply <= SCRATCH_TOO_SHORT)
 }
 
 // The content that the numbers stand for.

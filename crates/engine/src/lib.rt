@@ -6,16 +6,14 @@ ghost use Rattle.engine.specs.Create.{numbers, createReply, createState}
 
 pub mod call;
 pub mod checks;
-pub mod commit;
 pub mod create;
-pub mod honey_badger;
 pub mod operations;
 pub mod queries;
 
 use crate::checks::content_of;
+use crate::checks::leaves_scratch;
 use crate::checks::message_checks;
 use crate::checks::propose_checks;
-use crate::commit::skip_to_epoch;
 use crate::create::Numbers;
 use crate::operations::handle_message;
 use crate::operations::propose;
@@ -32,10 +30,10 @@ use state::words::clear;
 use steps::numbers::LAST_EPOCH;
 use steps::numbers::NOT_A_STATE;
 use steps::numbers::NUMBERS_OUT_OF_RANGE;
-use steps::numbers::SCRATCH_TOO_SHORT;
 use steps::numbers::SUCCESS;
 use steps::numbers::TARGET_TOO_HIGH;
 use steps::numbers::WRONG_STATE_LENGTH;
+use work::commit::skip_to_epoch;
 
 // Makes the words a state: reply 0, 1 for numbers out of range, 2 for another length.
 #[no_mangle]
@@ -89,7 +87,7 @@ pub extern "C" fn hb_propose(
         ≡ proposeCall (now (state .entry)) (now (scratch .entry)) (now (answers .entry)) (now (step .entry)) ⌝ }
 {
     let checked = propose_checks(state, scratch.len(), answers);
-    if (NOT_A_STATE <= checked) & (checked <= SCRATCH_TOO_SHORT) {
+    if leaves_scratch(checked) {
         return checked;
     }
     let length = scratch_length(state[NODES_AT] as usize, state[AHEAD_AT] as usize);
@@ -127,7 +125,7 @@ pub extern "C" fn hb_message(
         scratch.len(),
         answers,
     );
-    if (NOT_A_STATE <= checked) & (checked <= SCRATCH_TOO_SHORT) {
+    if leaves_scratch(checked) {
         return checked;
     }
     let length = scratch_length(state[NODES_AT] as usize, state[AHEAD_AT] as usize);

@@ -2,18 +2,18 @@
 ghost use mathlib.Core.Path.{_≡_};
 ghost use Rattle.steps.specs.Answers.{tapeOf};
 ghost use Rattle.state.specs.State.{currentEpoch};
-ghost use Rattle.engine.specs.HoneyBadger.{propose, handleMessage};
+ghost use Rattle.work.specs.HoneyBadger.{propose, handleMessage};
 ghost use Rattle.engine.specs.Calls.{after, zeroed, conclude};
-ghost use Rattle.engine.specs.declared.honey_badger.Call.the-variants.{Propose, Message};
+ghost use Rattle.work.specs.declared.honey_badger.Call.the-variants.{Propose, Message};
 ghost use Rattle.engine.specs.Shape.{Callable};
 use crate::call::rest;
 use crate::call::settle;
 use crate::call::too_early;
-use crate::honey_badger::Call;
 use epoch::MessageContent;
 use state::words::AHEAD_AT;
 use state::words::EPOCH_AT;
 use state::words::net_of;
+use work::honey_badger::Call;
 
 // `propose`. An observer's changes nothing.
 pub fn propose(state: &mut [u64], scratch: &mut [u64], answers: &[u64], table: &mut [u64]) -> u64

@@ -4,7 +4,7 @@ ghost use mathlib.Core.Bool.{true};
 ghost use Prim.Native.Nat.{_≤_};
 ghost use lib.ListN.{length};
 ghost use Rattle.state.specs.State.{headerLength, stateOk};
-ghost use Rattle.engine.specs.HoneyBadger.{hasInput, receivedProposals};
+ghost use Rattle.work.specs.HoneyBadger.{hasInput, receivedProposals};
 use state::words::EPOCH_AT;
 use state::words::INPUT_AT;
 use state::words::NODES_AT;

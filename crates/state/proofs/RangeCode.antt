@@ -9,7 +9,7 @@ use lib.ListN.{length, getD, take, drop, length-drop}
 use lib.Seq.{length-take-le}
 use lib.Bits.{bitOr}
 use lib.Dec.{eqb, leb, ltb}
-use borrow.Author.Tests.{leb-true, ltb-true, ltb-false, eqb-true, eq-eqb}
+use borrow.Author.Tests.{leb-true, ltb-true, ltb-false, eq-eqb}
 use Rattle.steps.specs.Numbers.{nodeLimit, aheadLimit}
 use Rattle.subset.specs.Words.{epochLength}
 use Rattle.epoch.specs.Shape.{EpochWords, Listed}
@@ -17,12 +17,12 @@ use Rattle.epoch.specs.Words.{allFrom, epochInRange}
 use Rattle.epoch.proofs.RangeCode.{none-below, join-below}
 use Rattle.epoch.proofs.RangesWords.{ok-listed}
 use Rattle.state.specs.Schedule.{scheduleOf}
-use Rattle.state.specs.State.{headerLength, nodesAt, faultyAt, aheadAt, scheduleAt, epochAt, vacantAt, nodes, faulty, ahead, schedule, firstNumber, secondNumber, currentEpoch, strategyOf, epochsAt, stateLength, epochWords, allHold, headerTests, headerInRange, epochsInRange, stateOk}
+use Rattle.state.specs.State.{headerLength, nodesAt, faultyAt, aheadAt, scheduleAt, epochAt, vacantAt, nodes, faulty, ahead, schedule, firstNumber, secondNumber, strategyOf, epochsAt, stateLength, epochWords, allHold, headerTests, headerInRange, epochsInRange, stateOk}
 use Rattle.state.specs.Shape.{StateWords, Divides}
 use Rattle.state.proofs.Bools.{and-left, and-right, test-holds}
 use Rattle.state.proofs.Schedules.{ok-divides}
 use Rattle.state.proofs.Window.{header-first}
-use Rattle.state.proofs.RangesState.{test, shaped, header-ok, words-in-range}
+use Rattle.state.proofs.RangesState.{test, shaped, words-in-range}
 
 not-so : (x : Bool) → (x ≡ true → ⊥) → x ≡ false
 not-so true h = absurd (h refl)

@@ -1,5 +1,4 @@
 // The ground layer: what a call knows of the network, the answers that it reads, and the step that it writes.
-pub mod answers;
 pub mod bits;
 pub mod network_info;
 pub mod numbers;

@@ -132,7 +132,7 @@ fn begin(counted: Step, words: &mut [u64], epoch: u64) -> Step {
 
 // An answer's parts as a step of epoch 3: first counted, then written. A refused one writes nothing, a failed one a header.
 fn parts(answers: &[u64], kind: u64, who: u64) {
-    if !steps::answers::table_ok(4, answers) {
+    if !answers::table_ok(4, answers) {
         say(b"  reply 5\n");
         return;
     }

@@ -12,20 +12,20 @@ use Rattle.engine.proofs.hb_fault_count.Reads as reads
 use Rattle.engine.proofs.hb_fault_count.Lts as lts
 use Rattle.state.proofs.range.state_ok.Reads as state-ok-reads
 
--- src/lib.rt:193:9
+-- src/lib.rt:201:9
 state-ok-requires : tie.Need-state-ok-requires
 state-ok-requires c κs = search needs
 
--- src/lib.rt:194:9
+-- src/lib.rt:202:9
 returns : tie.Need-returns
 unfolding queryReply faultCountResult
 returns c = (rw (sym (c .before .state-ok .ensures) ∙ not-true _ (c .if1 .taken)), rw (sym (c .before .state-ok .ensures) ∙ not-true _ (c .if1 .taken)))
 
--- src/lib.rt:196:15
+-- src/lib.rt:204:15
 shared-slice-read-result : tie.Need-shared-slice-read-result
 shared-slice-read-result c = omega (arith, header-inside (c .before .before .before .before .args .state .now) (ok-words (c .before .before .before .before .args .state .now) (sym (c .before .before .state-ok .ensures) ∙ not-false _ (c .before .if1 .left))))
 
--- src/lib.rt:189:1
+-- src/lib.rt:197:1
 returns-2 : tie.Need-returns-2
 unfolding queryReply faultCountResult
 returns-2 c = (rw (sym (c .before .before .state-ok .ensures) ∙ not-false _ (c .before .if1 .left)), rw (sym (c .before .before .state-ok .ensures) ∙ not-false _ (c .before .if1 .left)))

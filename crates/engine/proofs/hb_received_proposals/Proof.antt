@@ -10,20 +10,20 @@ use Rattle.engine.proofs.hb_received_proposals.Lts as lts
 use Rattle.engine.proofs.queries.received_proposals.Reads as received-proposals-reads
 use Rattle.state.proofs.range.state_ok.Reads as state-ok-reads
 
--- src/lib.rt:182:9
+-- src/lib.rt:190:9
 state-ok-requires : tie.Need-state-ok-requires
 state-ok-requires c κs = search needs
 
--- src/lib.rt:183:9
+-- src/lib.rt:191:9
 returns : tie.Need-returns
 unfolding queryReply receivedProposalsResult
 returns c = (rw (sym (c .before .state-ok .ensures) ∙ not-true _ (c .if1 .taken)), rw (sym (c .before .state-ok .ensures) ∙ not-true _ (c .if1 .taken)))
 
--- src/lib.rt:185:15
+-- src/lib.rt:193:15
 received-proposals-requires : tie.Need-received-proposals-requires
 received-proposals-requires c κs = (sym (c .before .state-ok .ensures) ∙ not-false _ (c .if1 .left))
 
--- src/lib.rt:178:1
+-- src/lib.rt:186:1
 returns-2 : tie.Need-returns-2
 unfolding queryReply receivedProposalsResult
 returns-2 c = (rw (sym (c .before .before .state-ok .ensures) ∙ not-false _ (c .before .if1 .left)), rw (sym (c .before .before .state-ok .ensures) ∙ not-false _ (c .before .if1 .left)) (c .received-proposals .ensures))

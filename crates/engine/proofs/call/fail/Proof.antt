@@ -2,14 +2,14 @@
 use mathlib.Core.Path.{refl, _∙_}
 use native.Mathlib.Omega.{arith}
 use borrow.Author.Needs.{needs}
-use Rattle.engine.specs.Work.{worked}
-use Rattle.engine.specs.Shape.{callBase}
+use Rattle.work.specs.Work.{worked}
+use Rattle.work.specs.Shape.{callBase}
 use Rattle.engine.proofs.CallEnds.{after-same, failed-full, failed-done}
 use Rattle.engine.proofs.call.fail.Statement.{statement}
 use Rattle.engine.proofs.call.fail.Tie as tie
 use Rattle.engine.proofs.call.fail.Reads as reads
 use Rattle.engine.proofs.call.fail.Lts as lts
-use Rattle.engine.proofs.commit.commit.Reads as commit-reads
+use Rattle.work.proofs.commit.commit.Reads as commit-reads
 use Rattle.steps.proofs.step.Step.counting.Reads as counting-reads
 use Rattle.steps.proofs.step.Step.header.Reads as header-reads
 

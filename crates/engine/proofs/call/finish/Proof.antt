@@ -5,16 +5,16 @@ use borrow.Author.Needs.{needs}
 use Rattle.steps.specs.Answers.{tapeOf}
 use Rattle.state.proofs.WordsCode.{header-inside}
 use Rattle.state.proofs.RangeCode.{ok-words}
-use Rattle.engine.specs.Shape.{callBase, callWork, countMore}
-use Rattle.engine.proofs.Bounded.{call-exact}
+use Rattle.work.specs.Shape.{callBase, callWork, countMore}
+use Rattle.work.proofs.Bounded.{call-exact}
 use Rattle.engine.proofs.CallEnds.{after-same, done-counted, done-full, done-written}
 use Rattle.engine.proofs.call.finish.Statement.{statement}
 use Rattle.engine.proofs.call.finish.Tie as tie
 use Rattle.engine.proofs.call.finish.Reads as reads
 use Rattle.engine.proofs.call.finish.Lts as lts
-use Rattle.engine.proofs.commit.commit.Reads as commit-reads
-use Rattle.engine.proofs.commit.count_faults.Reads as count-faults-reads
-use Rattle.engine.proofs.honey_badger.run.Reads as run-reads
+use Rattle.work.proofs.commit.commit.Reads as commit-reads
+use Rattle.work.proofs.commit.count_faults.Reads as count-faults-reads
+use Rattle.work.proofs.honey_badger.run.Reads as run-reads
 use Rattle.steps.proofs.step.Step.header.Reads as header-reads
 use Rattle.steps.proofs.step.Step.records.Reads as records-reads
 use Rattle.steps.proofs.step.Step.writing.Reads as writing-reads
@@ -28,8 +28,8 @@ returns : tie.Need-returns
 returns c = λ s. done-full (c .before .before .before .before .before .before .args .state .now) (callBase (c .before .before .before .before .before .before .args .call) (c .before .before .before .before .before .before .args .state .now)) s (c .before .before .before .before .before .before .args .table .now) (c .before .before .before .before .before .before .args .epoch) (callWork (c .before .before .before .before .before .before .args .call) (c .before .before .before .before .before .before .args .epoch) (c .before .before .before .before .before .before .args .state .now) (tapeOf (c .before .before .before .before .before .before .args .answers .now))) (call-exact (c .before .before .before .before .before .before .args .state .now) (c .before .before .before .before .before .before .pre .0 .ok) (c .before .before .before .before .before .before .args .answers .now) (c .before .before .before .before .before .before .pre .0 .good) (c .before .before .before .before .before .before .args .call) (c .before .before .before .before .before .before .args .epoch)) (c .before .before .before .before .before .before .args .counted) (c .before .before .before .before .before .before .pre .1) (omega (arith, c .before .records .ensures, c .if1 .taken))
 
 -- src/call.rt:123:21
-shared-slice-read-place : tie.Need-shared-slice-read-place
-shared-slice-read-place c = search needs
+shared-slice-read-again : tie.Need-shared-slice-read-again
+shared-slice-read-again c = search needs
 
 -- src/call.rt:124:9
 writing-requires : tie.Need-writing-requires
@@ -75,7 +75,7 @@ finish-spec =
     (tie.spec
     records-requires
     returns
-    shared-slice-read-place
+    shared-slice-read-again
     writing-requires
     run-requires
     header-requires

@@ -5,7 +5,7 @@ use borrow.Author.Needs.{needs}
 use borrow.Author.Tests.{not-true, not-false}
 use Rattle.steps.specs.Answers.{tapeOf}
 use Rattle.state.proofs.RangeCode.{ok-words}
-use Rattle.engine.specs.Shape.{callBase, callWork}
+use Rattle.work.specs.Shape.{callBase, callWork}
 use Rattle.engine.proofs.CallEnds.{nothing, first-step, first-refused, failed-unread, failed-read, done-unread, done-read}
 use Rattle.engine.proofs.call.run_twice.Statement.{statement}
 use Rattle.engine.proofs.call.run_twice.Tie as tie
@@ -14,7 +14,7 @@ use Rattle.engine.proofs.call.run_twice.Lts as lts
 use Rattle.engine.proofs.call.fail.Reads as fail-reads
 use Rattle.engine.proofs.call.finish.Reads as finish-reads
 use Rattle.engine.proofs.call.is_end.Reads as is-end-reads
-use Rattle.engine.proofs.honey_badger.run.Reads as run-reads
+use Rattle.work.proofs.honey_badger.run.Reads as run-reads
 use Rattle.steps.proofs.step.Step.counting.Reads as counting-reads
 
 -- src/call.rt:156:21

@@ -14,7 +14,7 @@ use Rattle.engine.proofs.call.too_early.Tie as tie
 use Rattle.engine.proofs.call.too_early.Reads as reads
 use Rattle.engine.proofs.call.too_early.Lts as lts
 use Rattle.engine.proofs.call.is_end.Reads as is-end-reads
-use Rattle.engine.proofs.commit.count_faults.Reads as count-faults-reads
+use Rattle.work.proofs.commit.count_faults.Reads as count-faults-reads
 use Rattle.steps.proofs.step.Step.counting.Reads as counting-reads
 use Rattle.steps.proofs.step.Step.fault.Reads as fault-reads
 use Rattle.steps.proofs.step.Step.header.Reads as header-reads

@@ -6,7 +6,7 @@ use Rattle.engine.proofs.checks.content_ok.Tie as tie
 use Rattle.engine.proofs.checks.content_ok.Reads as reads
 use Rattle.engine.proofs.checks.content_ok.Lts as lts
 
--- src/checks.rt:60:1
+-- src/checks.rt:71:1
 returns : tie.Need-returns
 unfolding contentOk
 returns c = refl

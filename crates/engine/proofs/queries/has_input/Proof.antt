@@ -1,6 +1,6 @@
 -- Made by `fill` from answers.txt: change that and fill again.
 use borrow.Author.Needs.{needs}
-use Rattle.engine.specs.HoneyBadger.{hasInput}
+use Rattle.work.specs.HoneyBadger.{hasInput}
 use Rattle.engine.proofs.queries.has_input.Statement.{statement}
 use Rattle.engine.proofs.queries.has_input.Tie as tie
 use Rattle.engine.proofs.queries.has_input.Reads as reads

@@ -5,7 +5,7 @@ use borrow.Author.Needs.{needs}
 use Rattle.state.specs.State.{currentEpoch}
 use Rattle.state.proofs.WordsCode.{header-inside, place-inside, state-small, part-words, words-epoch}
 use Rattle.state.proofs.RangeCode.{ok-words}
-use Rattle.engine.specs.HoneyBadger.{receivedProposals}
+use Rattle.work.specs.HoneyBadger.{receivedProposals}
 use Rattle.engine.proofs.Received.{accepted-below}
 use Rattle.engine.proofs.queries.received_proposals.Statement.{statement}
 use Rattle.engine.proofs.queries.received_proposals.Tie as tie

@@ -1,5 +1,4 @@
 -- Made by `fill` from answers.txt: change that and fill again.
-use mathlib.Core.Path.{_∙_}
 use native.Mathlib.Omega.{arith}
 use borrow.Author.Needs.{needs}
 use Rattle.state.specs.State.{headerTests}

@@ -1,7 +1,7 @@
 -- Made by `fill` from answers.txt: change that and fill again.
 use native.Mathlib.Omega.{arith}
 use borrow.Author.Needs.{needs}
-use Rattle.state.proofs.WordsCode.{epochs-early, state-size}
+use Rattle.state.proofs.WordsCode.{state-size}
 use Rattle.state.proofs.range.state_length.Statement.{statement}
 use Rattle.state.proofs.range.state_length.Tie as tie
 use Rattle.state.proofs.range.state_length.Reads as reads
