@@ -45,6 +45,14 @@ help:
 	@echo 'make bench            the engine and the original on the same recorded runs'
 	@echo 'make clean            removes build/'
 
+# Asked for before anything long begins
+have-cc:
+	$(need-cc)
+have-all: have-cc
+	$(need-cxx)
+	$(need-python)
+	$(need-rt)
+
 # THE ARCHIVE. Nothing is proved again until a source changes; `rt ci` removes target/, not build/
 lib: $(ARCHIVE)
 	@echo "belkjund: $(ARCHIVE)"
@@ -68,11 +76,10 @@ install: $(ARCHIVE)
 
 # THE EXAMPLE
 $(OUT)/wake: $(WAKE_SOURCES) $(WAKE_HEADERS) include/belkjund.h $(ARCHIVE)
-	$(need-cc)
 	@mkdir -p $(OUT)
 	@$(C99) $(WAKE_SOURCES) $(ARCHIVE) -o $@
 
-wake: $(OUT)/wake
+wake: have-cc $(OUT)/wake
 	@$(OUT)/wake $(if $(SEED),--seed $(SEED)) --html $(OUT)/wake.html
 
 # The same program, with an engine behind it that hands one host another batch: it has to fail
@@ -80,7 +87,7 @@ $(OUT)/tampered: tests/tampered.c $(WAKE_SOURCES) $(WAKE_HEADERS) include/belkju
 	@mkdir -p $(OUT)
 	@$(C99) -Wl,--wrap=hb_message tests/tampered.c $(WAKE_SOURCES) $(ARCHIVE) -o $@
 
-check-wake: $(OUT)/wake $(OUT)/tampered
+check-wake: have-cc $(OUT)/wake $(OUT)/tampered
 	@$(OUT)/wake --html $(OUT)/wake.html > $(OUT)/wake.txt || { cat $(OUT)/wake.txt; exit 1; }
 	@tail -n 1 $(OUT)/wake.txt
 	@$(OUT)/wake --seed 1 --runs $(WAKE_ORDERS)
@@ -88,8 +95,7 @@ check-wake: $(OUT)/wake $(OUT)/tampered
 	@echo "wake: and it fails as it should: $$(tail -n 1 $(OUT)/tampered.txt)"
 
 # THE HEADER, in C and C++, and the interface through it
-check-header:
-	$(need-cc)
+check-header: have-cc
 	$(need-cxx)
 	@for std in c99 c11; do $(C99) -std=$$std -fsyntax-only tests/interface.c || exit 1; done
 	@for std in c++11 c++17; do $(CPP) -std=$$std -fsyntax-only tests/interface.c || exit 1; done
@@ -101,8 +107,7 @@ check-interface: check-header $(ARCHIVE)
 	@$(CPP) tests/interface.c -x none $(ARCHIVE) -o $(OUT)/interface-cpp && $(OUT)/interface-cpp
 
 # README'S SNIPPET, as a user has it: installed, compiled, run; its output is the block below it
-check-readme: $(ARCHIVE)
-	$(need-cc)
+check-readme: have-cc $(ARCHIVE)
 	@mkdir -p $(OUT)
 	@awk '/^## From C/ {on = 1} on && /^```$$/ && copy {exit} copy {print} on && /^```c$$/ {copy = 1}' README.md > $(OUT)/readme.c
 	@awk '/^## From C/ {on = 1} on && /^```$$/ && copy {exit} copy {print} on && /^```text$$/ {copy = 1}' README.md > $(OUT)/readme.txt
@@ -121,27 +126,24 @@ check-sources:
 	@if [ -f tools/documents.py ]; then echo python3 tools/documents.py; python3 tools/documents.py; fi
 
 # A bounded hostile run
-check-fuzz: $(ARCHIVE)
-	$(need-cc)
+check-fuzz: have-cc $(ARCHIVE)
 	@if [ -f fuzz/Makefile ]; then $(MAKE) -C fuzz test LIB=$(abspath $(ARCHIVE)) OUT=$(abspath $(OUT)/fuzz) CC='$(CC)'; fi
 
-checks: check-sources check-interface check-readme check-wake check-fuzz
+checks: have-all check-sources check-interface check-readme check-wake check-fuzz
 
 # The last line of a passing run is that of `rt ci`
 test: checks
 	@exec rt ci
 
-fuzz: $(ARCHIVE)
-	$(need-cc)
+fuzz: have-cc $(ARCHIVE)
 	@test -f fuzz/Makefile || { echo 'belkjund: the folder fuzz/ is missing: it is part of the repository' >&2; exit 1; }
 	@$(MAKE) -C fuzz run LIB=$(abspath $(ARCHIVE)) OUT=$(abspath $(OUT)/fuzz) CC='$(CC)' $(if $(CALLS),CALLS=$(CALLS)) $(if $(SEED),SEED=$(SEED))
 
-bench: $(ARCHIVE)
-	$(need-cc)
+bench: have-cc $(ARCHIVE)
 	@test -f bench/Makefile || { echo 'belkjund: the folder bench/ is missing: it is part of the repository' >&2; exit 1; }
 	@$(MAKE) -C bench LIB=$(abspath $(ARCHIVE)) OUT=$(abspath $(OUT)/bench) CC='$(CC)'
 
 clean:
 	rm -rf build
 
-.PHONY: help lib install wake test checks check-wake check-header check-interface check-readme check-sources check-fuzz fuzz bench clean
+.PHONY: help have-cc have-all lib install wake test checks check-wake check-header check-interface check-readme check-sources check-fuzz fuzz bench clean
