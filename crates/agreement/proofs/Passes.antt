@@ -18,7 +18,7 @@ use Rattle.engine.specs.Calls.{After, zeroed, countFaults, isEnd, concludeAs, c
 use Rattle.engine.specs.Laws.{isRefusal, oneOf, proposeFailures, proposeReplies, messageFailures, messageReplies}
 use Rattle.agreement.specs.History.{Call, turnOf, stateAfter, propose as proposing, message as messaging, skip as skipping}
 use Rattle.engine.proofs.Fails.{Meant, only-propose, only-message}
-use Rattle.engine.proofs.Checks.{by-branch, by-propose, by-message}
+use Rattle.engine.proofs.CheckCases.{by-branch, by-propose, by-message}
 use Rattle.engine.proofs.Refusals.{propose-promised, message-promised, skip-refusal, skip-replies}
 
 -- a run that went on, whose chain was read to its end, and what the call left

@@ -29,7 +29,7 @@ use Rattle.engine.specs.HoneyBadger.{updateEpoch, epochStateMut, inEpoch, tryOu
 use Rattle.engine.specs.Calls.{After, countFaults, isEnd, concludeAs, proposeAfter, messageCall, contentOk, itemOk, contentOf, skipReply, skipState}
 use Rattle.agreement.specs.History.{propose as proposing, message as messaging, skip as skipping, stateAfter}
 use Rattle.agreement.specs.Rule.{CallsInRange}
-use Rattle.engine.proofs.Checks.{by-branch, by-propose, by-message}
+use Rattle.engine.proofs.CheckCases.{by-branch, by-propose, by-message}
 use Rattle.engine.proofs.Looping.{same-batch}
 use Rattle.state.proofs.RangesState.{StateOk, input-ok, epoch-ok, faults-ok, nodes-same, ahead-same, strategy-same, current-below, words-ok, with-ok, without-ok, state-wider, header-ok, enter, leave}
 

@@ -1,89 +1,33 @@
 -- HOW LONG THE LOG OF A CALL IS: at most 1,552 entries, so that no list of a step is counted past its limit of 2^32. Assumes nothing.
 use Prim.Native.Nat.{ℕ, zero, suc, _+_, _*_, _/_, _≤_, _<_}
-use mathlib.Core.Path.{_≡_, ap, _∙_}
-use mathlib.Core.List.{List, _++_}
-use mathlib.Core.Bool.{Bool, true, false, cond}
+use mathlib.Core.Path.{_≡_, ap}
+use mathlib.Core.List.{List}
+use mathlib.Core.Bool.{Bool, true, false}
 use native.Mathlib.Omega.{arith}
 use native.Mathlib.Nat.{mul-le-mul-right, mul-le-mul-left}
-use lib.ListN.{length, set, take, length-take, length-append, length-set, List·getD-append}
-use lib.Seq.{getD-take, getD-set-other}
+use lib.ListN.{length, set}
 use lib.Dec.{eqb, ltb}
-use borrow.Author.Tests.{leb-true}
-use Rattle.steps.specs.declared.reader.Answer.{Answer}
-use Rattle.steps.specs.declared.reader.Answer.the-variants.{Got, Refused}
 use Rattle.steps.specs.Network.{isValidator}
 use Rattle.steps.specs.Table.{tableOk}
-use Rattle.steps.specs.Answers.{Tape, tapeOf, ask}
+use Rattle.steps.specs.Answers.{Tape, tapeOf}
 use Rattle.steps.specs.Steps.{Entry, out, putAll, counting, writing, records as recordsOf, putHeader, written}
-use Rattle.steps.specs.Runs.{going, failed, Run, ends, onward, heardAs, heard}
-use Rattle.steps.proofs.Bounded.{Bounded, chainLimit, table-bounded, bounded-ends, bounded-wider, bounded-one, bounded-cond, bounded-ask, bounded-then, bounded-inside}
+use Rattle.steps.specs.Runs.{going, Run, ends, onward, inside}
+use Rattle.steps.proofs.Bounded.{Bounded, chainLimit, table-bounded, bounded-ends, bounded-wider, bounded-one, bounded-cond, bounded-ask, bounded-then, bounded-onward, bounded-inside}
 use Rattle.steps.proofs.Counting.{exactOf, counts-exact, records-counted}
 use Rattle.steps.proofs.Finished.{finished}
 use Rattle.epoch.specs.declared.MessageContent.{MessageContent}
 use Rattle.epoch.specs.Words.{isVacant}
-use Rattle.epoch.specs.Epoch.{newEpoch}
 use Rattle.epoch.specs.Batch.{isReady, outputBatch}
 use Rattle.epoch.proofs.Bounded.{batch-writes, propose-writes, content-writes}
 use Rattle.subset.proofs.Bounded.{Writes}
-use Rattle.state.specs.State.{headerLength, headerTests, nodesAt, aheadAt, epochAt, inputAt, nodes, ahead, currentEpoch, netOf, placeOf, epochWords, withEpoch, withoutEpoch, stateOk}
-use Rattle.engine.specs.HoneyBadger.{updateEpoch, epochStateMut, inEpoch, tryOutputBatches, propose, handleMessage}
-use Rattle.state.proofs.Window.{header-first}
-use Rattle.state.proofs.RangesState.{test, header-ok, shaped}
-
--- WHAT BOUNDS A CALL: the header is there, with at most 16 nodes and a look-ahead of at most 15. Nothing that a run writes alters it
-pub record Sized (w : List ℕ) : Type 0 where
-  pub long : headerLength ≤ length w
-  pub few : nodes w ≤ 16
-  pub near : ahead w ≤ 15
-
-same-sized : (w v : List ℕ) → headerLength ≤ length v → nodes v ≡ nodes w → ahead v ≡ ahead w → Sized w → Sized v
-same-sized w v l n a h = record { long = l; few = omega (arith, h .few); near = omega (arith, h .near) }
-
-set-sized : (w : List ℕ) (i x : ℕ) → 4 ≤ i → Sized w → Sized (set w i x)
-set-sized w i x l h =
-    same-sized w _ (omega (arith, length-set w i x, h .long))
-    (getD-set-other w i nodesAt x 0 (λ e. omega arith)) (getD-set-other w i aheadAt x 0 (λ e. omega arith)) h
-
--- words put behind the header
-put-sized : (w rest : List ℕ) (at : ℕ) → headerLength ≤ at → Sized w → Sized (take at w ++ rest)
-put-sized w rest at l h =
-    let long : headerLength ≤ length (take at w) = omega (arith, length-take at w, h .long) in
-    same-sized w _ (omega (arith, length-append (take at w) rest))
-    (List·getD-append (take at w) rest 0 nodesAt (omega arith) ∙ getD-take at w nodesAt 0 (omega arith))
-    (List·getD-append (take at w) rest 0 aheadAt (omega arith) ∙ getD-take at w aheadAt 0 (omega arith))
-    h
-
-with-sized : (w : List ℕ) (epoch : ℕ) (x : List ℕ) → Sized w → Sized (withEpoch w epoch x)
-unfolding withEpoch placeOf
-with-sized w epoch x h = put-sized w _ (placeOf w epoch) (omega (arith, header-first (nodes w))) h
-
-update-sized : (w : List ℕ) → Sized w → Sized (updateEpoch w)
-unfolding updateEpoch withoutEpoch
-update-sized w h = set-sized _ inputAt 0 (omega arith) (set-sized _ epochAt _ (omega arith) (with-sized w (currentEpoch w) _ h))
-
-built-sized : (epoch : ℕ) (w : List ℕ) (p : Tape) → Sized w → Sized (heard {A = Unit {0}} (ask p 1) w (λ a b q. cond (eqb a 0) (ends (failed 20) w q) (ends (going tt) (withEpoch w epoch (newEpoch (nodes w))) q)) .state)
-unfolding heard heardAs
-built-sized epoch w p h = by (ask p 1 .answer) (ask p 1 .tape)
-  where
-    built : (x : Bool) (q : Tape) → Sized (cond {A = Run (List ℕ) (Unit {0})} x (ends (failed 20) w q) (ends (going tt) (withEpoch w epoch (newEpoch (nodes w))) q) .state)
-    built true q = h
-    built false q = with-sized w epoch _ h
-
-    by : (y : Answer) (q : Tape) → Sized (heardAs {A = Unit {0}} y w q (λ a b q. cond (eqb a 0) (ends (failed 20) w q) (ends (going tt) (withEpoch w epoch (newEpoch (nodes w))) q)) .state)
-    by (Got a b) q = built (eqb a 0) q
-    by Refused q = h
-
-mut-sized : (epoch : ℕ) (w : List ℕ) (p : Tape) → Sized w → Sized (epochStateMut epoch w p .state)
-unfolding epochStateMut
-mut-sized epoch w p h = go (isVacant (epochWords w epoch)) _ _ (built-sized epoch w p h) h
-  where
-    go : (x : Bool) (r s : Run (List ℕ) (Unit {0})) → Sized (r .state) → Sized (s .state) → Sized (cond x r s .state)
-    go true r s a b = a
-    go false r s a b = b
-
-in-sized : (epoch : ℕ) (call : List ℕ → Tape → Run (List ℕ) (Unit {0})) (w : List ℕ) (p : Tape) → Sized w → Sized (inEpoch epoch call w p .state)
-unfolding inEpoch
-in-sized epoch call w p h = with-sized w epoch _ h
+use Rattle.state.specs.State.{inputAt, nodes, ahead, currentEpoch, netOf, epochWords, stateOk}
+use Rattle.engine.specs.declared.honey_badger.Call.{Call}
+use Rattle.engine.specs.declared.honey_badger.Call.the-variants.{Propose, Message}
+use Rattle.engine.specs.HoneyBadger.{propose, handleMessage}
+use Rattle.engine.specs.Work.{built, epochCall, batchesFrom, worked, beside, workIn, proposeWork, messageWork, committed}
+use Rattle.engine.specs.Shape.{callWork}
+use Rattle.state.proofs.RangeCode.{ok-words}
+use Rattle.engine.proofs.Works.{propose-apart, message-apart}
 
 -- WHAT A CALL WRITES besides one entry for each record that it reads. An epoch: at most 16 × 16 faults 2 and one fault more
 abbrev pub epochLimit : ℕ
@@ -93,85 +37,83 @@ epochLimit = 257
 abbrev pub batchLimit : ℕ
 batchLimit = 17
 
-mut-writes : (epoch : ℕ) → Writes 0 (epochStateMut epoch)
-unfolding epochStateMut
-mut-writes epoch w p =
-    bounded-cond (isVacant (epochWords w epoch)) 0 p _ _ (bounded-ask 0 p 1 w _ (λ a b q. bounded-cond (eqb a 0) 1 q _ _ bounded-ends bounded-ends)) bounded-ends
-
-in-writes : (more epoch : ℕ) (call : List ℕ → Tape → Run (List ℕ) (Unit {0})) → Writes more call → Writes more (inEpoch epoch call)
-unfolding inEpoch
-in-writes more epoch call h w p = bounded-inside (withEpoch w epoch) _ (h (epochWords w epoch) p)
-
-batches-write : (m : ℕ) (w : List ℕ) (p : Tape) → Sized w → Bounded (m * batchLimit) p (tryOutputBatches m w p)
-unfolding tryOutputBatches
-batches-write zero w p h = bounded-ends
-batches-write (suc m) w p h = go (isReady (nodes w) (epochWords w (currentEpoch w))) (λ v q. batches-write m v q)
-  where
-    go : (x : Bool) → ((v : List ℕ) (q : Tape) → Sized v → Bounded (m * batchLimit) q (tryOutputBatches m v q)) → Bounded {S = List ℕ} {A = Unit {0}} (suc m * batchLimit) p
-        (elim x [
-          | true ↦ onward (inEpoch (currentEpoch w) (outputBatch (nodes w) (currentEpoch w)) w p) (λ _ w q. tryOutputBatches m (updateEpoch w) q)
-          | false ↦ ends (going tt) w p
-        ])
-    go true f =
-        bounded-wider ((1 + nodes w) + m * batchLimit) (suc m * batchLimit) p _ (omega (arith, h .few))
-        (bounded-then (1 + nodes w) (m * batchLimit) p _ _ (in-writes (1 + nodes w) (currentEpoch w) _ (batch-writes (nodes w) (currentEpoch w)) w p)
-        (λ _ _. f _ _ (update-sized _ (in-sized (currentEpoch w) _ w p h))))
-    go false f = bounded-ends
-
 -- an epoch's call and the batches behind it
 abbrev pub callLimit : ℕ
 callLimit = epochLimit + 16 * batchLimit
 
+built-writes : (n : ℕ) → Writes 0 (built n)
+unfolding built
+built-writes n x p =
+    bounded-cond (isVacant x) 0 p _ _ (bounded-ask 0 p 1 x _ (λ a b q. bounded-cond (eqb a 0) 1 q _ _ bounded-ends bounded-ends)) bounded-ends
+
+epoch-writes : (n m : ℕ) (body : List ℕ → Tape → Run (List ℕ) (Unit {0})) → Writes m body → Writes m (epochCall n body)
+unfolding epochCall
+epoch-writes n m body f x p = bounded-onward m p _ _ (built-writes n x p) (λ _ x q. f x q)
+
+batches-write : (n : ℕ) → n ≤ 16 → (words : ℕ → List ℕ) (m e : ℕ) (p : Tape) → Bounded (m * batchLimit) p (batchesFrom n words m e p)
+unfolding batchesFrom
+batches-write n few words zero e p = bounded-ends
+batches-write n few words (suc m) e p = go (isReady n (words e)) (λ d q. batches-write n few words m d q)
+  where
+    go : (x : Bool) → ((d : ℕ) (q : Tape) → Bounded (m * batchLimit) q (batchesFrom n words m d q)) → Bounded {S = ℕ} {A = Unit {0}} (suc m * batchLimit) p
+        (elim x [
+          | true ↦ onward (inside (λ _. e) (outputBatch n e (words e) p)) (λ _ e q. batchesFrom n words m (e + 1) q)
+          | false ↦ ends (going tt) e p
+        ])
+    go true f =
+        bounded-wider ((1 + n) + m * batchLimit) (suc m * batchLimit) p _ (omega arith)
+        (bounded-then (1 + n) (m * batchLimit) p _ _ (bounded-inside (λ _. e) _ (batch-writes n e (words e) p)) (λ _ _. f _ _))
+    go false f = bounded-ends
+
 epoch-limit : (n : ℕ) → n ≤ 16 → 1 + n * n ≤ epochLimit
 epoch-limit n l = omega (arith, mul-le-mul-right n l, mul-le-mul-left 16 l)
-
-output-writes : (w : List ℕ) (p : Tape) → Sized w → Bounded (16 * batchLimit) p (tryOutputBatches (ahead w + 1) w p)
-output-writes w p h = bounded-wider ((ahead w + 1) * batchLimit) (16 * batchLimit) p _ (omega (arith, h .near)) (batches-write (ahead w + 1) w p h)
-
--- a call of one epoch, and the batches that go out behind it
-called-writes : (epoch : ℕ) (call : List ℕ → Tape → Run (List ℕ) (Unit {0})) (w : List ℕ) (p : Tape) → Sized w → Writes (1 + nodes w * nodes w) call
-    → Bounded callLimit p (onward (inEpoch epoch call w p) (λ _ w q. tryOutputBatches (ahead w + 1) w q))
-called-writes epoch call w p h f =
-    bounded-then epochLimit (16 * batchLimit) p _ _
-    (bounded-wider (1 + nodes w * nodes w) epochLimit p _ (epoch-limit (nodes w) (h .few)) (in-writes (1 + nodes w * nodes w) epoch call f w p))
-    (λ _ _. output-writes _ _ (in-sized epoch call w p h))
-
-pub propose-bounded : (w : List ℕ) (p : Tape) → Sized w → Bounded callLimit p (propose w p)
-unfolding propose netOf
-propose-bounded w p h =
-    bounded-cond (isValidator (netOf w)) callLimit p _ _
-    (bounded-then 0 callLimit p _ _ (mut-writes (currentEpoch w) (set w inputAt 1) p) (λ _ _.
-    called-writes _ _ _ _ (mut-sized (currentEpoch w) (set w inputAt 1) p (set-sized w inputAt 1 (omega arith) h)) (propose-writes _ _ _)))
-    bounded-ends
-
-pub message-bounded : (sender epoch proposer : ℕ) (content : MessageContent) (w : List ℕ) (p : Tape) → Sized w → Bounded callLimit p (handleMessage sender epoch proposer content w p)
-unfolding handleMessage netOf
-message-bounded sender epoch proposer content w p h =
-    bounded-cond (ltb (currentEpoch w + ahead w) epoch) callLimit p _ _ (bounded-wider 1 callLimit p _ (omega arith) (bounded-one _ 0 p _ bounded-ends))
-    (bounded-cond (ltb epoch (currentEpoch w)) callLimit p _ _ bounded-ends
-    (bounded-then 0 callLimit p _ _ (mut-writes epoch w p) (λ _ _. called-writes epoch _ _ _ (mut-sized epoch w p h) (content-writes _ _ _ sender proposer content))))
 
 -- THE LOG of a call with a state in range and an answer table that is not malformed
 abbrev pub logLimit : ℕ
 logLimit = chainLimit + callLimit
 
 module _ (w : List ℕ) (ok : stateOk w ≡ true) where
-  pub state-sized : Sized w
-  unfolding headerTests
-  state-sized =
-      record {
-        long = omega (arith, header-first (nodes w), shaped w ok .long);
-        few = header-ok w ok .few;
-        near = leb-true (ahead w) 15 (test w ok 3);
-      }
+  -- a call of one epoch, and the batches that go out behind it
+  work-bounded : (e : ℕ) (body : List ℕ → Tape → Run (List ℕ) (Unit {0})) → Writes (1 + nodes w * nodes w) body → (p : Tape) → Bounded callLimit p (workIn w e body p)
+  unfolding workIn
+  work-bounded e body f p =
+      let h = ok-words w ok in
+      let c = epochCall (nodes w) body (epochWords w e) p in
+      bounded-then epochLimit (16 * batchLimit) p _ _
+      (bounded-inside (λ x. worked x (currentEpoch w)) _
+      (bounded-wider (1 + nodes w * nodes w) epochLimit p _ (epoch-limit (nodes w) (h .few)) (epoch-writes (nodes w) (1 + nodes w * nodes w) body f (epochWords w e) p)))
+      (λ _ _. bounded-inside (worked (c .state)) _
+      (bounded-wider ((ahead w + 1) * batchLimit) (16 * batchLimit) (c .tape) _ (omega (arith, h .near)) (batches-write (nodes w) (h .few) (beside w e (c .state)) (ahead w + 1) (currentEpoch w) (c .tape))))
+
+  call-bounded : (call : Call) (epoch : ℕ) (p : Tape) → Bounded callLimit p (callWork call epoch w p)
+  unfolding netOf
+  call-bounded Propose epoch p = work-bounded epoch _ (propose-writes _ _ _) p
+  call-bounded (Message sender proposer content) epoch p = work-bounded epoch _ (content-writes _ _ _ sender proposer content) p
+
+  -- an observer's propose runs no epoch
+  propose-bounded : (p : Tape) → Bounded callLimit p (propose w p)
+  unfolding proposeWork
+  propose-bounded p =
+      rw (propose-apart w ok p)
+      (bounded-cond (isValidator (netOf w)) callLimit p _ _ (bounded-inside (committed (set w inputAt 1) (currentEpoch w)) _ (call-bounded Propose (currentEpoch w) p)) (bounded-ends {s = w} {v = going tt}))
+
+  -- nor does a message beyond the look-ahead, which writes fault 1, or a late one
+  message-bounded : (sender epoch proposer : ℕ) (content : MessageContent) (p : Tape) → Bounded callLimit p (handleMessage sender epoch proposer content w p)
+  unfolding messageWork
+  message-bounded sender epoch proposer content p =
+      rw (message-apart w ok p sender epoch proposer content)
+      (bounded-cond (ltb (currentEpoch w + ahead w) epoch) callLimit p _ _ (bounded-wider 1 callLimit p _ (omega arith) (bounded-one _ 0 p _ bounded-ends))
+      (bounded-cond (ltb epoch (currentEpoch w)) callLimit p _ _ bounded-ends (bounded-inside (committed w epoch) _ (call-bounded (Message sender proposer content) epoch p))))
 
   module _ (answers : List ℕ) (good : tableOk (nodes w) answers ≡ true) where
+    pub call-log : (call : Call) (epoch : ℕ) → length (callWork call epoch w (tapeOf answers) .log) ≤ logLimit
+    call-log call epoch = table-bounded (nodes w) callLimit answers _ good (call-bounded call epoch (tapeOf answers))
+
     pub propose-log : length (propose w (tapeOf answers) .log) ≤ logLimit
-    propose-log = table-bounded (nodes w) callLimit answers _ good (propose-bounded w (tapeOf answers) state-sized)
+    propose-log = table-bounded (nodes w) callLimit answers _ good (propose-bounded (tapeOf answers))
 
     pub message-log : (sender epoch proposer : ℕ) (content : MessageContent) → length (handleMessage sender epoch proposer content w (tapeOf answers) .log) ≤ logLimit
-    message-log sender epoch proposer content =
-        table-bounded (nodes w) callLimit answers _ good (message-bounded sender epoch proposer content w (tapeOf answers) state-sized)
+    message-log sender epoch proposer content = table-bounded (nodes w) callLimit answers _ good (message-bounded sender epoch proposer content (tapeOf answers))
 
 -- WHAT THE SECOND RUN NEEDS. Such a log is counted exactly, whatever words the first run was given; the test of the count is reply 10's;
 -- and the second run leaves the finished step in every table that has room for it
@@ -195,6 +137,9 @@ log-exact log h =
     }
 
 module _ (w : List ℕ) (ok : stateOk w ≡ true) (answers : List ℕ) (good : tableOk (nodes w) answers ≡ true) where
+  pub call-exact : (call : Call) (epoch : ℕ) → CountedExactly (callWork call epoch w (tapeOf answers) .log)
+  call-exact call epoch = log-exact _ (call-log w ok answers good call epoch)
+
   pub propose-exact : CountedExactly (propose w (tapeOf answers) .log)
   propose-exact = log-exact _ (propose-log w ok answers good)
 

@@ -44,7 +44,7 @@ unfolding skipToEpoch
 skip-is n f w h target up = rw (lt-leb target (currentEpoch w) up, h .ahead, add-one f)
 
 -- at or above the target nothing is cleared
-clear-none : (target m e : ℕ) (v : List ℕ) → target ≤ e → clearBelow target m e v ≡ v
+pub clear-none : (target m e : ℕ) (v : List ℕ) → target ≤ e → clearBelow target m e v ≡ v
 unfolding clearBelow
 clear-none target zero e v h = refl
 clear-none target (suc m) e v h = rw (le-ltb e target h) (clear-none target m (e + 1) v (omega arith))

@@ -18,7 +18,7 @@ use Rattle.engine.specs.Calls.{After, countFaults, isEnd, concludeAs, co
 use Rattle.state.proofs.Window.{Shaped, header-first}
 use Rattle.state.proofs.RangesState.{shaped}
 use Rattle.engine.proofs.Skips.{skip-head}
-use Rattle.engine.proofs.Checks.{by-branch, by-propose, by-message}
+use Rattle.engine.proofs.CheckCases.{by-branch, by-propose, by-message}
 use Rattle.engine.proofs.Works.{propose-counts, message-counts}
 
 -- a successful step's faults are added, up to the limit

@@ -18,7 +18,7 @@ use Rattle.engine.specs.Create.{Numbers, numbersOk, createReply, createS
 use Rattle.engine.specs.Laws.{isRefusal, oneOf, proposeFailures, proposeReplies, messageFailures, messageReplies, Promised}
 use Rattle.state.proofs.Bools.{never}
 use Rattle.engine.proofs.Fails.{Meant, Only, only-propose, only-message}
-use Rattle.engine.proofs.Checks.{by-branch, by-propose, by-message}
+use Rattle.engine.proofs.CheckCases.{by-branch, by-propose, by-message}
 use Rattle.state.proofs.RangesState.{shaped}
 
 -- numbers of a list

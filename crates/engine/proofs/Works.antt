@@ -35,22 +35,27 @@ use Rattle.engine.proofs.Looping.{batches-apart, batches-never-fail}
 
 -- ONE EPOCH's instances are built in its own words
 module _ (n : ℕ) (x : List ℕ) (p : Tape) where
-  built-full : length x ≡ epochLength n → length (built n x p .state) ≡ epochLength n
-  unfolding built heard heardAs newEpoch
-  built-full full = go (isVacant x) (ask p 1 .answer)
+  -- what holds of the words and of new ones holds after it
+  pub built-keeps : (P : List ℕ → Type 0) → P x → P (newEpoch n) → P (built n x p .state)
+  unfolding built heard heardAs
+  built-keeps P old new = go (isVacant x) (ask p 1 .answer)
     where
       q : Tape
       q = ask p 1 .tape
 
-      pick : (t : Bool) → length (cond t (ends {A = Unit {0}} (failed 20) x q) (ends (going tt) (newEpoch n) q) .state) ≡ epochLength n
-      pick true = full
-      pick false = length-set (replicate (epochLength n) 0) 0 1 ∙ length-replicate (epochLength n) 0
+      pick : (t : Bool) → P (cond t (ends {A = Unit {0}} (failed 20) x q) (ends (going tt) (newEpoch n) q) .state)
+      pick true = old
+      pick false = new
 
       go : (t : Bool) (y : Answer)
-          → length (cond t (heardAs {A = Unit {0}} y x q (λ a b q. cond (eqb a 0) (ends (failed 20) x q) (ends (going tt) (newEpoch n) q))) (ends (going tt) x p) .state) ≡ epochLength n
+          → P (cond t (heardAs {A = Unit {0}} y x q (λ a b q. cond (eqb a 0) (ends (failed 20) x q) (ends (going tt) (newEpoch n) q))) (ends (going tt) x p) .state)
       go true (Got a b) = pick (eqb a 0)
-      go true Refused = full
-      go false y = full
+      go true Refused = old
+      go false y = old
+
+  built-full : length x ≡ epochLength n → length (built n x p .state) ≡ epochLength n
+  unfolding newEpoch
+  built-full full = built-keeps (λ y. length y ≡ epochLength n) full (length-set (replicate (epochLength n) 0) 0 1 ∙ length-replicate (epochLength n) 0)
 
   -- and then its call runs, which leaves as many words as it had
   pub call-full : (body : List ℕ → Tape → Run (List ℕ) (Unit {0})) → ((y : List ℕ) (q : Tape) → length (body y q .state) ≡ length y) → length x ≡ epochLength n

@@ -22,6 +22,21 @@ pub record Numbers : Type 0 where
   pub first : ℕ
   pub second : ℕ
 
+abbrev pub numbers : ℕ → ℕ → ℕ → ℕ → ℕ → ℕ → ℕ → ℕ → ℕ → ℕ → Numbers
+numbers nodes faulty ahead own key strategy epoch schedule first second =
+    record {
+      nodes = nodes;
+      faulty = faulty;
+      ahead = ahead;
+      own = own;
+      key = key;
+      strategy = strategy;
+      epoch = epoch;
+      schedule = schedule;
+      first = first;
+      second = second;
+    }
+
 -- "1: N outside 1..16, 3 × f ≥ N, look-ahead F above 15, own index above N (N means observer), key flag […] or strategy […] not 0 or 1, start
 -- epoch above 2^62", and the schedule's rule
 unfoldable pub numberTests : Numbers → List Bool

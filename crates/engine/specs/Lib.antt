@@ -1,8 +1,9 @@
 pub mod HoneyBadger
 pub mod Calls
+pub mod Checks
 pub mod Work
-pub mod Shape
 pub mod Create
+pub mod Shape
 pub mod Laws
 pub mod Opened
 pub mod Cases

@@ -6,15 +6,19 @@ use mathlib.Core.Bool.{Bool, true, false, cond}
 use lib.ListN.{length, set}
 use lib.Dec.{leb}
 use Rattle.steps.specs.Numbers.{faultLimit}
-use Rattle.steps.specs.Answers.{Tape}
-use Rattle.steps.specs.Steps.{out}
+use Rattle.steps.specs.Table.{tableOk}
+use Rattle.steps.specs.Answers.{Tape, tapeOf}
+use Rattle.steps.specs.declared.step.Step.{Step}
+use Rattle.steps.specs.Steps.{out, putAll, counting}
 use Rattle.steps.specs.Runs.{Verdict, going, refused, Run, ends, onward, Left}
+use Rattle.subset.specs.Words.{epochLength}
 use Rattle.epoch.specs.declared.MessageContent.{MessageContent}
 use Rattle.epoch.specs.declared.epoch_state.Outcome.{Outcome}
 use Rattle.epoch.specs.Outcomes.{outcomeVerdict}
 use Rattle.epoch.specs.Epoch.{propose as proposeInEpoch, handleMessageContent}
 use Rattle.epoch.specs.Batch.{isReady, outputBatch}
 use Rattle.state.specs.State.{nodes, faultCount, inputAt, faultsAt, netOf, strategyOf, encryptedIn, scratchOf, stateOk}
+use Rattle.engine.specs.declared.create.Numbers as declared
 use Rattle.engine.specs.declared.honey_badger.Call.{Call}
 use Rattle.engine.specs.declared.honey_badger.Call.the-variants.{Propose, Message}
 use Rattle.engine.specs.declared.honey_badger.Trial.{Trial}
@@ -22,6 +26,7 @@ use Rattle.engine.specs.declared.honey_badger.Trial.the-variants.{NotRea
 use Rattle.engine.specs.declared.honey_badger.Tried.{Tried}
 use Rattle.engine.specs.declared.honey_badger.Batches.{Batches}
 use Rattle.engine.specs.declared.honey_badger.Ran.{Ran}
+use Rattle.engine.specs.Create.{Numbers, numbers}
 use Rattle.engine.specs.Work.{Worked, worked, workIn}
 
 -- A CALL OF ONE EPOCH, on its words: the own proposal, or a message
@@ -46,9 +51,23 @@ callBase (Message sender proposer content) w = w
 -- what a call has tested before it runs
 pub record Callable (call : Call) (state scratch answers : List ℕ) : Type 0 where
   pub ok : stateOk state ≡ true
+  -- so that no list of its step is counted past its limit
+  pub good : tableOk (nodes state) answers ≡ true
   pub nodes : CallOk call (nodes state)
   pub room : scratchOf state ≤ length scratch
   pub first : 4 ≤ length answers
+
+-- the same for the words of its epoch
+pub record Runnable (call : Call) (state words answers : List ℕ) : Type 0 where
+  pub ok : stateOk state ≡ true
+  pub good : tableOk (nodes state) answers ≡ true
+  pub long : length words ≡ epochLength (nodes state)
+  pub nodes : CallOk call (nodes state)
+  pub first : 4 ≤ length answers
+
+-- the step that its first run counts
+abbrev pub countedBy : Call → ℕ → List ℕ → List ℕ → Step
+countedBy call epoch state answers = putAll (out counting []) (callWork call epoch state (tapeOf answers) .log) .step
 
 -- ONE BATCH of an epoch, if it is ready: whether it went out
 unfoldable pub tryOutputBatch : ℕ → ℕ → List ℕ → Tape → Run (List ℕ) Bool
@@ -85,3 +104,8 @@ leftRan r x p words = record { state = worked x (r .next); verdict = outcomeVerd
 -- the fault count with k more
 unfoldable pub countMore : List ℕ → ℕ → List ℕ
 countMore w k = cond (leb (faultCount w + k) faultLimit) (set w faultsAt (faultCount w + k)) (set w faultsAt faultLimit)
+
+-- CREATE: the ten numbers that a struct of the code holds
+abbrev pub numbersOf : declared.Numbers → Numbers
+numbersOf c =
+    numbers (c .«nodes») (c .«faulty») (c .«ahead») (c .«own») (c .«key») (c .«strategy») (c .«epoch») (c .«schedule») (c .«first») (c .«second»)

@@ -1,11 +1,11 @@
 -- A call as the code does it: the run reads the state and works on the words of one epoch apart from it, and a commit writes afterwards.
 -- Nobody has to believe these: proofs/Works.antt and proofs/Settled.antt prove that they are the runs and calls of HoneyBadger.antt and Calls.antt.
 use Prim.Native.Nat.{ℕ, zero, suc, _+_}
-use mathlib.Core.List.{List}
+use mathlib.Core.List.{List, []}
 use mathlib.Core.Bool.{true, false, cond}
 use lib.Dec.{eqb}
 use Rattle.steps.specs.Numbers.{instancesBuilt, createSubset}
-use Rattle.steps.specs.Answers.{Tape, ask}
+use Rattle.steps.specs.Answers.{Tape, tape, ask}
 use Rattle.steps.specs.Runs.{going, failed, Run, ends, onward, heard, inside}
 use Rattle.epoch.specs.declared.MessageContent.{MessageContent}
 use Rattle.epoch.specs.Words.{isVacant}
@@ -68,3 +68,10 @@ committed w e s = skipToEpoch (s .next) (withEpoch w e (s .words))
 -- failed run nothing is skipped, and the commit writes the epoch's words alone (`propose-failed`, `message-failed` in proofs/Works.antt)
 abbrev pub settled : Run Worked (Unit {0}) → ℕ → List ℕ → List ℕ → List ℕ → List ℕ → After
 settled r e v state scratch step = conclude (inside (committed v e) r) e state scratch step
+
+-- a call whose answers are all read: it failed, or it is done
+abbrev pub allRead : Tape
+allRead = tape 0 []
+
+abbrev pub asDone : {S : Type 0} → Run S (Unit {0}) → Run S (Unit {0})
+asDone r = record { state = r .state; verdict = going tt; tape = allRead; log = r .log }

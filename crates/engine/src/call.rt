@@ -4,15 +4,17 @@ ghost use mathlib.Core.Path.{_≡_};
 ghost use lib.ListN.{length};
 ghost use Rattle.steps.specs.Answers.{chain, tapeOf};
 ghost use Rattle.steps.specs.Steps.{fault};
-ghost use Rattle.steps.specs.Runs.{going, ends, before};
+ghost use Rattle.steps.specs.Runs.{going, failed, ends, before};
 ghost use mathlib.Core.List.{List, [], _∷_};
 ghost use mathlib.Core.Bool.{true};
 ghost use Prim.Native.Nat.{ℕ, _≤_};
 ghost use Rattle.steps.specs.Numbers.{unexpectedHbMessageEpoch};
-ghost use Rattle.state.specs.State.{stateOk};
+ghost use Rattle.subset.specs.Words.{epochLength};
+ghost use Rattle.state.specs.State.{nodes, stateOk};
+ghost use Rattle.state.specs.Shape.{StateWords};
 ghost use Rattle.engine.specs.Calls.{after, zeroed, isEnd, conclude};
-ghost use Rattle.engine.specs.Work.{settled};
-ghost use Rattle.engine.specs.Shape.{callWork, callBase, Callable};
+ghost use Rattle.engine.specs.Work.{worked, settled, allRead, asDone};
+ghost use Rattle.engine.specs.Shape.{callWork, callBase, Callable, Runnable, countedBy};
 use crate::commit::commit;
 use crate::commit::count_faults;
 use crate::honey_badger::Call;
@@ -88,7 +90,11 @@ fn fail(
     next: u64,
     error: u64,
     table: &mut [u64],
-) -> u64 {
+) -> u64
+    requires { ⌜ StateWords (now state) × (length (now words) ≡ epochLength (nodes (now state))) ⌝ }
+    ensures { λ r. ⌜ ((scratch : List ℕ) → after r (now (state .exit)) scratch (now (table .exit))
+        ≡ settled (ends (failed error) (worked (now (words .entry)) next) allRead) epoch (callBase call (now (state .entry))) (now (state .entry)) scratch (now (table .entry))) ⌝ }
+{
     if table.len() < 4 {
         return STEP_TABLE_TOO_SHORT;
     }
@@ -106,11 +112,15 @@ fn finish(
     answers: &[u64],
     counted: Step,
     table: &mut [u64],
-) -> u64 {
+) -> u64
+    requires { ⌜ Runnable call (now state) (now words) (now answers) × (counted ≡ countedBy call epoch (now state) (now answers)) ⌝ }
+    ensures { λ r. ⌜ ((scratch : List ℕ) → after r (now (state .exit)) scratch (now (table .exit))
+        ≡ settled (asDone (callWork call epoch (now (state .entry)) (tapeOf (now (answers .entry))))) epoch (callBase call (now (state .entry))) (now (state .entry)) scratch (now (table .entry))) ⌝ }
+{
     if table.len() / 4 < counted.records() {
         return STEP_TABLE_TOO_SHORT;
     }
-    let mut place = answers[0] as usize;
+    let mut again = answers[0] as usize;
     let writing = counted.writing();
     let second = run(
         state,
@@ -118,19 +128,65 @@ fn finish(
         call,
         words,
         answers,
-        &mut place,
+        &mut again,
         writing,
         table,
     );
-    let next = second.next;
+    let current = second.next;
     writing.header(table, epoch);
-    commit(state, call, epoch, words, next);
+    commit(state, call, epoch, words, current);
     let faults = counted.faults;
     count_faults(state, faults.at);
     SUCCESS
 }
 
-// Both runs and the commit.
+// Both runs and the commit, with the words of the call's epoch.
+fn run_twice(
+    state: &mut [u64],
+    words: &mut [u64],
+    epoch: u64,
+    call: Call,
+    answers: &[u64],
+    table: &mut [u64],
+) -> u64
+    requires { ⌜ Runnable call (now state) (now words) (now answers) ⌝ }
+    ensures { λ r. ⌜ ((scratch : List ℕ) → after r (now (state .exit)) scratch (now (table .exit))
+        ≡ settled (callWork call epoch (now (state .entry)) (tapeOf (now (answers .entry)))) epoch (callBase call (now (state .entry))) (now (state .entry)) scratch (now (table .entry))) ⌝ }
+{
+    let mut place = answers[0] as usize;
+    let counting = Step::counting();
+    let first = run(
+        state,
+        epoch,
+        call,
+        words,
+        answers,
+        &mut place,
+        counting,
+        &mut table[..0],
+    );
+    let next = first.next;
+    let counted = first.step;
+    let outcome = first.outcome;
+    let read = is_end(answers, place);
+    match outcome {
+        Outcome::Refused => ANSWER_NOT_NEXT,
+        Outcome::Failed(error) => {
+            if !read {
+                return ANSWERS_UNREAD;
+            }
+            fail(state, words, epoch, call, next, error, table)
+        }
+        Outcome::Done => {
+            if !read {
+                return ANSWERS_UNREAD;
+            }
+            finish(state, words, epoch, call, answers, counted, table)
+        }
+    }
+}
+
+// A call that runs an epoch, in the first words of scratch.
 pub fn settle(
     state: &mut [u64],
     scratch: &mut [u64],
@@ -144,42 +200,5 @@ pub fn settle(
         ≡ settled (callWork call epoch (now (state .entry)) (tapeOf (now (answers .entry)))) epoch (callBase call (now (state .entry))) (now (state .entry)) (zeroed (now (state .entry)) (now (scratch .entry))) (now (table .entry)) ⌝ }
 {
     let size = epoch_length(state[NODES_AT] as usize);
-    let mut place = answers[0] as usize;
-    let first = run(
-        state,
-        epoch,
-        call,
-        &mut scratch[..size],
-        answers,
-        &mut place,
-        Step::counting(),
-        &mut table[..0],
-    );
-    let next = first.next;
-    let counted = first.step;
-    let outcome = first.outcome;
-    let read = is_end(answers, place);
-    match outcome {
-        Outcome::Refused => ANSWER_NOT_NEXT,
-        Outcome::Failed(error) => {
-            if !read {
-                return ANSWERS_UNREAD;
-            }
-            fail(state, &scratch[..size], epoch, call, next, error, table)
-        }
-        Outcome::Done => {
-            if !read {
-                return ANSWERS_UNREAD;
-            }
-            finish(
-                state,
-                &mut scratch[..size],
-                epoch,
-                call,
-                answers,
-                counted,
-                table,
-            )
-        }
-    }
+    run_twice(state, &mut scratch[..size], epoch, call, answers, table)
 }

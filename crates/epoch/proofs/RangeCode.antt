@@ -44,7 +44,7 @@ join-whole k m at w =
     rw e
 
 -- a row is 0 where it is below 1
-none-below : (x : ℕ) → eqb x 0 ≡ ltb x 1
+pub none-below : (x : ℕ) → eqb x 0 ≡ ltb x 1
 none-below zero = refl
 none-below (suc x) = ne-eqb (suc x) 0 (λ e. omega arith) ∙ sym (le-ltb (suc x) 1 (omega arith))
 

@@ -14,10 +14,11 @@ use Rattle.steps.proofs.Ranges.{and-both, Below, zeros-at}
 use Rattle.decryption.specs.declared.ThresholdDecrypt.{ThresholdDecrypt}
 use Rattle.decryption.specs.Decrypt.{new}
 use Rattle.decryption.proofs.Ranges.{handles, InstanceOk, new-ok}
-use Rattle.subset.specs.Words.{recordLength, epochLength, statusAt, decidedAt, acceptedAt, acceptedOf, countOf, statusOf, statusComplete, recordAt, proposalAt}
+use Rattle.subset.specs.Words.{recordLength, epochLength, statusAt, decidedAt, acceptedAt, acceptedOf, countAt, countOf, arrivalField, statusOf, statusComplete, recordAt, proposalAt}
 use Rattle.subset.proofs.Ranges.{ownLimit, fieldLimit, limitAt, limit-own, limit-field, limit-share, limit-some, EpochOk, set-field, set-own, field-below}
 use Rattle.epoch.specs.declared.SubsetHandlingStrategy.{SubsetHandlingStrategy}
 use Rattle.epoch.specs.declared.SubsetHandlingStrategy.the-variants.{Incremental, AllAtEnd}
+use Rattle.epoch.specs.Shape.{Listed}
 use Rattle.epoch.specs.Words.{accept, DecryptionState, missing, ongoing, complete, decryptionAt, hadInputAt, terminatedAt, shareAt, sharesFrom, entryNone, loadInstance, loadEntry, setShares, flag, storeEntry, storeDecryption, maybeHandle, allFrom, recordInRange, recordsInRange, mostKept, epochInRange}
 
 -- AN ENTRY's words
@@ -261,3 +262,11 @@ module _ (n : ℕ) (w : List ℕ) where
       zero-at k l =
           let z : limitAt n (4 + k) ≡ 1 = limit-own n (4 + k) (omega arith) ∙ List·getD-eq-default (3 ∷ 2 ∷ (2 ^ n) ∷ (n + 1) ∷ []) 1 {n = 4 + k} (omega arith) in
           omega (arith, h .below (4 + k))
+
+-- WHAT THE CODE REQUIRES of the list of contributions: words in range have it
+pub ok-listed : (n : ℕ) (w : List ℕ) → EpochOk n w → Listed n w
+ok-listed n w h =
+    record {
+      count = omega (arith, h .below countAt, limit-own n countAt (omega arith));
+      who = λ i l. field-below n w i arrivalField h (omega arith);
+    }

@@ -4,3 +4,5 @@ pub mod Schedules
 pub mod Places
 pub mod Window
 pub mod RangesState
+pub mod WordsCode
+pub mod RangeCode

@@ -1,17 +1,8 @@
 -- Made by `fill` from answers.txt: change that and fill again.
-use Prim.Native.Nat.{ℕ, _<_, _≤_}
 use mathlib.Core.Path.{_≡_, refl, sym, _∙_}
-use mathlib.Core.List.{List}
 use mathlib.Core.Bool.{Bool, true, false, not}
-use lib.ListN.{length}
-use native.Mathlib.Omega.{arith}
 use borrow.Author.Needs.{needs}
-use Rattle.subset.specs.Words.{epochLength}
-use Rattle.subset.proofs.Ranges.{field-below}
-use Rattle.epoch.specs.declared.SubsetHandlingStrategy.{SubsetHandlingStrategy}
-use Rattle.epoch.specs.Shape.{Listed}
-use Rattle.epoch.specs.Words.{epochInRange}
-use Rattle.epoch.proofs.RangesWords.{most-kept, epoch-below, epoch-keeps}
+use Rattle.epoch.proofs.RangesWords.{epoch-below, ok-listed}
 use Rattle.epochs.proofs.enter.Statement.{statement}
 use Rattle.epochs.proofs.enter.Tie as tie
 use Rattle.epochs.proofs.enter.Reads as reads
@@ -37,16 +28,9 @@ in-range : (b : Bool) → not b ≡ false → b ≡ true
 in-range true e = refl
 in-range false e = sym e
 
-listed : (strategy : SubsetHandlingStrategy) (n : ℕ) (w : List ℕ) → 0 < n → length w ≡ epochLength n → epochInRange strategy n w ≡ true → Listed n w
-listed strategy n w some long h =
-    record {
-      count = omega (arith, epoch-keeps n w strategy h, most-kept strategy n);
-      who = λ i l. field-below n w i 7 (epoch-below n w strategy some long h) (omega arith);
-    }
-
 -- src/main.rt:154:9
 propose-requires : tie.Need-propose-requires
-propose-requires c κs = (c .before .before .before .before .before .before .before .before .before .before .before .before .pre .0, c .before .before .before .before .before .before .before .before .before .before .before .before .pre .1, (listed _ _ _ (c .before .before .before .before .before .before .before .before .before .before .before .before .pre .0 .some) (c .before .before .before .before .before .before .before .before .before .before .before .before .pre .1 .long) (sym (c .before .before .before .before .before .before .epoch-in-range .ensures) ∙ in-range _ (c .before .before .before .before .before .if1 .left))))
+propose-requires c κs = (c .before .before .before .before .before .before .before .before .before .before .before .before .pre .0, c .before .before .before .before .before .before .before .before .before .before .before .before .pre .1, (ok-listed _ _ (epoch-below _ _ _ (c .before .before .before .before .before .before .before .before .before .before .before .before .pre .0 .some) (c .before .before .before .before .before .before .before .before .before .before .before .before .pre .1 .long) (sym (c .before .before .before .before .before .before .epoch-in-range .ensures) ∙ in-range _ (c .before .before .before .before .before .if1 .left)))))
 
 -- src/main.rt:154:9
 same-length-2 : tie.Need-same-length-2
@@ -66,7 +50,7 @@ content-of-requires c κs = search needs
 
 -- src/main.rt:157:5
 handle-message-content-requires : tie.Need-handle-message-content-requires
-handle-message-content-requires c κs = (c .before .before .before .before .before .before .before .before .before .before .before .before .before .pre .0, c .before .before .before .before .before .before .before .before .before .before .before .before .before .pre .1, (listed _ _ _ (c .before .before .before .before .before .before .before .before .before .before .before .before .before .pre .0 .some) (c .before .before .before .before .before .before .before .before .before .before .before .before .before .pre .1 .long) (sym (c .before .before .before .before .before .before .before .epoch-in-range .ensures) ∙ in-range _ (c .before .before .before .before .before .before .if1 .left))), c .before .before .before .before .before .before .before .before .before .before .before .before .before .pre .2, c .before .before .before .before .before .before .before .before .before .before .before .before .before .pre .3)
+handle-message-content-requires c κs = (c .before .before .before .before .before .before .before .before .before .before .before .before .before .pre .0, c .before .before .before .before .before .before .before .before .before .before .before .before .before .pre .1, (ok-listed _ _ (epoch-below _ _ _ (c .before .before .before .before .before .before .before .before .before .before .before .before .before .pre .0 .some) (c .before .before .before .before .before .before .before .before .before .before .before .before .before .pre .1 .long) (sym (c .before .before .before .before .before .before .before .epoch-in-range .ensures) ∙ in-range _ (c .before .before .before .before .before .before .if1 .left)))), c .before .before .before .before .before .before .before .before .before .before .before .before .before .pre .2, c .before .before .before .before .before .before .before .before .before .before .before .before .before .pre .3)
 
 -- src/main.rt:135:1
 same-length-4 : tie.Need-same-length-4
