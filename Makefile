@@ -105,6 +105,10 @@ check-interface: check-header $(ARCHIVE)
 	@mkdir -p $(OUT)
 	@$(C99) tests/interface.c $(ARCHIVE) -o $(OUT)/interface && $(OUT)/interface
 	@$(CPP) tests/interface.c -x none $(ARCHIVE) -o $(OUT)/interface-cpp && $(OUT)/interface-cpp
+	@if command -v nm >/dev/null 2>&1; then \
+	    more=$$(nm $(ARCHIVE) | awk '($$1 == "U" && $$2 != "memcpy" && $$2 != "memset") || $$2 ~ /^[BbCDdGgSs]$$/'); \
+	    if [ -n "$$more" ]; then echo "archive: not in the header's words: $$more"; exit 1; fi; \
+	    echo 'archive: no variables, nothing wanted but memcpy and memset'; fi
 
 # README'S SNIPPET, as a user has it: installed, compiled, run; its output is the block below it
 check-readme: have-cc $(ARCHIVE)
