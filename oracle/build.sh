@@ -1,7 +1,8 @@
 #!/bin/sh
 # Copies the thirteen originals, compares them byte for byte and builds the oracle, offline.
-# usage: oracle/build.sh [folder with the originals, default ../shared/docs/src/src]
+# usage: [ENGINE=path of libengine.a] oracle/build.sh [folder with the originals, default ../shared/docs/src/src]
 # The folder may also hold them side by side, under names like src--src--subset--subset.rs.txt.
+# With ENGINE the engine is linked and can be compared; `rt staticlib engine` makes target/staticlib/libengine.a.
 set -eu
 here=$(cd "$(dirname "$0")" && pwd)
 from=${1:-$here/../../shared/docs/src/src}
@@ -12,5 +13,12 @@ while read -r name; do
     cmp -s "$source" "$here/originals/$name" || cp -f "$source" "$here/originals/$name"
     cmp "$source" "$here/originals/$name"
 done < "$here/originals.txt"
+features=
+if [ -n "${ENGINE:-}" ]; then
+    ENGINE=$(realpath "$ENGINE")
+    export ENGINE
+    features='--features runs/engine'
+fi
 cd "$here"
-exec cargo build --release --offline --quiet -j "${JOBS:-1}"
+# shellcheck disable=SC2086
+exec cargo build --release --offline --quiet -j "${JOBS:-1}" $features

@@ -189,7 +189,7 @@ fn count_step(step: &[u64], numbers: &Numbers, add: &mut impl FnMut(String)) -> 
     batches
 }
 
-fn is_encrypted(x: &Numbers, epoch: u64) -> bool {
+pub fn is_encrypted(x: &Numbers, epoch: u64) -> bool {
     match x.schedule {
         0 => true,
         1 => false,

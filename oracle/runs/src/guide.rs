@@ -11,22 +11,22 @@ pub enum Plan {
 }
 
 /// A state, seen by epoch.
-struct View<'a>(&'a [u64]);
+pub struct View<'a>(pub &'a [u64]);
 
 impl View<'_> {
-    fn n(&self) -> u64 {
+    pub fn n(&self) -> u64 {
         self.0[1]
     }
 
-    fn look_ahead(&self) -> u64 {
+    pub fn look_ahead(&self) -> u64 {
         self.0[3]
     }
 
-    fn current(&self) -> u64 {
+    pub fn current(&self) -> u64 {
         self.0[10]
     }
 
-    fn epoch(&self, epoch: u64) -> &[u64] {
+    pub fn epoch(&self, epoch: u64) -> &[u64] {
         let len = epoch_len(self.n() as usize);
         let place = HEADER + (epoch % (self.look_ahead() + 1)) as usize * len;
         &self.0[place..place + len]
@@ -47,7 +47,7 @@ impl View<'_> {
         self.epoch(epoch)[0] == 2 && self.accepted(epoch).all(|p| self.record(epoch, p)[2] == 2)
     }
 
-    fn is_encrypted(&self, epoch: u64) -> bool {
+    pub fn is_encrypted(&self, epoch: u64) -> bool {
         let (a, b) = (self.0[8], self.0[9]);
         match self.0[7] {
             0 => true,

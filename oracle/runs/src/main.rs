@@ -1,19 +1,37 @@
 //! The original as oracle: see `README.md`.
 
+#[cfg(feature = "engine")]
+mod asker;
 mod chooser;
 mod command;
+#[cfg(feature = "engine")]
+mod compare;
 mod count;
 mod damage;
+#[cfg(feature = "engine")]
+mod document;
+#[cfg(feature = "engine")]
+mod engine;
 mod generate;
+#[cfg(feature = "engine")]
+mod groups;
 mod guide;
+#[cfg(feature = "engine")]
+mod lent;
 mod oracle;
 mod pairs;
 mod random;
+#[cfg(feature = "engine")]
+mod ranges;
 mod raw;
 mod record;
+#[cfg(feature = "engine")]
+mod rounds;
 mod state;
 mod table;
 mod tree;
+#[cfg(feature = "engine")]
+mod world;
 
 use std::error::Error;
 use std::io::{self, Write};
@@ -24,7 +42,10 @@ const USAGE: &str = "usage: oracle command
        oracle replay [--no-state] FILE...
        oracle text FILE
        oracle count FILE...
-       oracle pairs FILE...";
+       oracle pairs FILE...
+with the engine (see build.sh):
+       oracle compare CLASS SEED RUNS CALLS
+       oracle groups SEED EPOCHS";
 
 fn main() {
     // Panics of the original are caught and reported with the call; ours are to be seen.
@@ -52,8 +73,12 @@ fn start(args: &[&str]) -> Result<(), Box<dyn Error>> {
             }
             Ok(())
         }
-        ["generate", class, seed, runs, calls] => generate(class, seed, runs, calls, "binary"),
-        ["generate", class, seed, runs, calls, form] => generate(class, seed, runs, calls, form),
+        ["generate", class, seed, runs, calls] => generate([class, seed, runs, calls], "binary"),
+        ["generate", class, seed, runs, calls, form] => generate([class, seed, runs, calls], form),
+        #[cfg(feature = "engine")]
+        ["compare", class, seed, runs, calls] => compare([class, seed, runs, calls]),
+        #[cfg(feature = "engine")]
+        ["groups", seed, epochs] => Ok(rounds::run(seed.parse()?, epochs.parse()?)?),
         ["replay", "--no-state", files @ ..] => replay(files, false),
         ["replay", files @ ..] => replay(files, true),
         ["text", file] => Ok(print!("{}", record::text(&record::read(file)?)?)),
@@ -76,13 +101,12 @@ fn start(args: &[&str]) -> Result<(), Box<dyn Error>> {
     }
 }
 
-fn generate(
-    class: &str,
-    seed: &str,
-    runs: &str,
-    calls: &str,
-    form: &str,
-) -> Result<(), Box<dyn Error>> {
+/// Makes the runs of a class, or of all classes: these are dealt out in turn, two by two. Hands on
+/// each run with its class's place in the list and its index.
+fn each_run(
+    [class, seed, runs, calls]: [&str; 4],
+    mut each: impl FnMut(usize, u64, Vec<record::Record>) -> Result<(), Box<dyn Error>>,
+) -> Result<Vec<&'static str>, Box<dyn Error>> {
     let found = generate::CLASSES.iter().find(|x| x.name == class);
     let chosen: Vec<&generate::Class> = match (class, found) {
         (_, Some(found)) => vec![found],
@@ -90,30 +114,61 @@ fn generate(
         _ => return Err(USAGE.into()),
     };
     let (seed, runs, calls) = (seed.parse()?, runs.parse::<u64>()?, calls.parse()?);
-    let mut columns: Vec<_> =
-        chosen.iter().map(|x| (x.name.to_string(), count::Counts::new())).collect();
-    let mut out = io::stdout();
     for index in 0..runs {
-        // With several classes the runs are dealt out in turn, two by two.
         let which = (index / 2) as usize % chosen.len();
         let place = index / 2 / chosen.len() as u64 * 2 + index % 2;
         let records = generate::run(chosen[which], seed, place, calls)
             .map_err(|trouble| format!("run {}: {}", index, trouble))?;
+        each(which, index, records)?;
+    }
+    Ok(chosen.iter().map(|x| x.name).collect())
+}
+
+fn generate(what: [&str; 4], form: &str) -> Result<(), Box<dyn Error>> {
+    let mut counts = vec![count::Counts::new(); generate::CLASSES.len()];
+    let mut out = io::stdout();
+    let names = each_run(what, |which, _, records| {
         match form {
             "binary" => out.write_all(&record::bytes(&records))?,
             "text" => out.write_all(record::text(&records)?.as_bytes())?,
             "count" => {
                 for (row, number) in count::count(&records) {
-                    *columns[which].1.entry(row).or_default() += number;
+                    *counts[which].entry(row).or_default() += number;
                 }
             }
             _ => return Err(USAGE.into()),
         }
-    }
+        Ok(())
+    })?;
     if form == "count" {
+        let columns: Vec<_> = names.iter().map(|name| name.to_string()).zip(counts).collect();
         print_counts(&columns);
     }
     Ok(())
+}
+
+/// Compares the engine with the original, on fresh runs.
+#[cfg(feature = "engine")]
+fn compare(what: [&str; 4]) -> Result<(), Box<dyn Error>> {
+    let mut tally = compare::Tally::new();
+    let mut different = 0;
+    let seed = what[1].parse()?;
+    each_run(what, |which, index, records| {
+        if let Err((i, text)) = compare::run(&records, &[seed, index], &mut tally) {
+            different += 1;
+            println!("class {} run {} record {}: {}", which, index, i, text);
+            if different == 1 {
+                println!("{}", record::calls(&records[..=i]).join("\n"));
+            }
+        }
+        Ok(())
+    })?;
+    compare::print(&tally);
+    println!("{} calls, {} runs with a difference", compare::calls(&tally), different);
+    match different {
+        0 => Ok(()),
+        _ => Err("the engine and the original differ".into()),
+    }
 }
 
 fn replay(files: &[&str], with_state: bool) -> Result<(), Box<dyn Error>> {

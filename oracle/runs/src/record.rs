@@ -154,29 +154,41 @@ pub fn replay(records: &[Record], with_state: bool) -> Result<(), String> {
     Ok(())
 }
 
+/// A call as in command mode; none for queries.
+fn call_line(record: &Record) -> Option<String> {
+    Some(match record {
+        Record::Create { numbers, .. } => format!("create {}", join(&number_list(numbers))),
+        Record::Call { call, records, answers, .. } => {
+            let name = match call {
+                Call::Propose => format!("propose {}", records),
+                Call::Message(x) => format!("message {} {}", join(x), records),
+            };
+            format!("{} {}", name, join(answers))
+        }
+        Record::Skip { target, .. } => format!("skip {}", target),
+        Record::Queries(_) => return None,
+    })
+}
+
+/// The calls of a run as in command mode, without the queries.
+#[cfg(feature = "engine")]
+pub fn calls(records: &[Record]) -> Vec<String> {
+    records.iter().filter_map(call_line).collect()
+}
+
 /// The text of the records, each call with the queries and all state words after it.
 pub fn text(records: &[Record]) -> Result<String, Trouble> {
     let mut text = String::new();
     let mut oracle = None;
     for record in records {
-        let line = match again(&mut oracle, record)? {
-            Record::Create { numbers, reply } => {
-                format!("call create {}\nreply {}\n", join(&number_list(&numbers)), reply)
-            }
-            Record::Call { call, records, answers, reply, .. } => {
-                let name = match call {
-                    Call::Propose => format!("propose {}", records),
-                    Call::Message(x) => format!("message {} {}", join(&x), records),
-                };
-                let reply = join(&[vec![reply.reply], reply.step].concat());
-                format!("call {} {}\nreply {}\n", name, join(&answers), reply)
-            }
-            Record::Skip { target, reply, .. } => {
-                format!("call skip {}\nreply {}\n", target, reply)
-            }
+        let now = again(&mut oracle, record)?;
+        let reply = match &now {
+            Record::Create { reply, .. } | Record::Skip { reply, .. } => reply.to_string(),
+            Record::Call { reply, .. } => join(&[&[reply.reply], &reply.step[..]].concat()),
             Record::Queries(_) => continue,
         };
-        text.push_str(&line);
+        let call = call_line(&now).unwrap_or_default();
+        text.push_str(&format!("call {}\nreply {}\n", call, reply));
         if let Some(oracle) = &oracle {
             let (queries, state) = (join(&oracle.queries()), join(&oracle.state()?));
             text.push_str(&format!("queries {}\nstate {}\n", queries, state));
