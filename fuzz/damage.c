@@ -125,9 +125,15 @@ static size_t pick_record(const struct call *c, struct random *r)
     return at;
 }
 
+/* N of the state, or any where that has none. */
+static uint64_t nodes_of(const struct call *c)
+{
+    return c->state_len > NODES && c->state[NODES] >= 1 && c->state[NODES] <= MAX_NODES ? c->state[NODES] : 4;
+}
+
 static void damage_table(struct call *c, struct random *r)
 {
-    uint64_t n = c->state_len > NODES ? c->state[NODES] : 4;
+    uint64_t n = nodes_of(c);
     size_t len = c->answers_len;
     if (len < 4 || chance(r, 50)) {
         c->answers_len = PICK(r, 0, 1, 2, 3, 4, 8, 4096, 4100, below(r, LENT_MAX + 1));
@@ -184,11 +190,11 @@ static void damage_table(struct call *c, struct random *r)
 
 static void damage_numbers(struct call *c, struct random *r)
 {
-    uint64_t *x = c->numbers, n = c->state_len > NODES ? c->state[NODES] : 4;
+    uint64_t *x = c->numbers, n = nodes_of(c);
     uint64_t current = c->state_len > CURRENT ? c->state[CURRENT] : 0;
     switch (below(r, 5)) {
     case 0:
-        x[0] = PICK(r, n, n - 1, n + 1, below(r, n | 1), any_word(r));
+        x[0] = PICK(r, n, n - 1, n + 1, below(r, n), any_word(r));
         break;
     case 1:
         x[1] = PICK(r, current, current + below(r, 20), current - 1, any_word(r));
@@ -197,7 +203,7 @@ static void damage_numbers(struct call *c, struct random *r)
         x[2] = PICK(r, 0, 1, 2, 3, 4, any_word(r));
         break;
     case 3:
-        x[3] = PICK(r, n, n - 1, n + 1, below(r, n | 1), any_word(r));
+        x[3] = PICK(r, n, n - 1, n + 1, below(r, n), any_word(r));
         break;
     default:
         x[4] = PICK(r, 0, 1, HANDLE_LIMIT, HANDLE_LIMIT + 1, any_word(r));
