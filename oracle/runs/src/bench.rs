@@ -188,6 +188,11 @@ impl Run {
     }
 }
 
+/// A host has just written the answers.
+fn touch(table: &[u64]) {
+    std::hint::black_box(table.iter().fold(0, |all, word| all ^ word));
+}
+
 /// What a host lends to the engine.
 struct Words {
     state: Vec<u64>,
@@ -207,6 +212,7 @@ impl Words {
         let (start, end);
         match action {
             Action::Call { call, table, reply, .. } => {
+                touch(table);
                 start = now();
                 let r = engine::call(call, &mut self.state, &mut self.scratch, table, &mut self.step);
                 end = now();
@@ -229,6 +235,7 @@ impl Words {
     }
 
     fn refused(&mut self, call: &Call, table: &[u64], wanted: u64) -> (u64, u64) {
+        touch(table);
         let step = if wanted == 10 { &mut self.step[..0] } else { &mut self.step[..] };
         let start = now();
         let reply = engine::call(call, &mut self.state, &mut self.scratch, table, step);
