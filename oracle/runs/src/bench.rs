@@ -171,10 +171,12 @@ impl Run {
             if let Action::Call { call, table, .. } = &self.actions[i] {
                 let stranger = Call::Message([self.numbers.n, 0, 1, 0, 0]);
                 let current = words.state[10];
+                touch(table);
                 let start = now();
                 let skip = engine::skip(current, &mut words.state);
                 let end = now();
                 assert_eq!(skip, 0);
+                touch(table);
                 let zeroing = words.refused(&stranger, &[0; 4], 11);
                 let checks = words.refused(&stranger, table, 11);
                 let first = words.refused(call, table, 10);
@@ -245,8 +247,8 @@ impl Words {
     }
 }
 
-/// Writes a line for each call: where it stands, then the median of each measured time in
-/// nanoseconds; and a line for each repetition and kind of call with sums, for the spread.
+/// Writes a line for each call: where it stands, then first quartile, median and third quartile of
+/// each measured time, in nanoseconds.
 pub fn measure(name: &str, records: &[Record], repeats: usize) -> Result<(), Trouble> {
     let (scale, empty) = calibrate();
     let mut runs = read(records);
