@@ -147,9 +147,9 @@ def panel(left, title, label, ticks, series):
         out.append(f'<text x="{x(a):.1f}" y="358" text-anchor="middle">{a}</text>')
     for i, (name, color, dashed, points) in enumerate(series):
         out.append(line(points, x, y, color, dashed))
-        at = 54 + 15 * i
-        out.append(f'<line x1="{left + 70}" x2="{left + 94}" y1="{at}" y2="{at}" {stroke(color, dashed)}/>'
-                   f'<text x="{left + 100}" y="{at + 4}">{name}</text>')
+        at, by = left + 70 + 180 * (i % 2), 402 + 16 * (i // 2)
+        out.append(f'<line x1="{at}" x2="{at + 24}" y1="{by}" y2="{by}" {stroke(color, dashed)}/>'
+                   f'<text x="{at + 30}" y="{by + 4}">{name}</text>')
     return "\n".join(out)
 
 
@@ -177,8 +177,8 @@ def by_chain(sized):
 def plot(sized):
     left = panel(0, "ns per accepted call, against N", "N", [1, 4, 7, 10, 13, 16], by_size(sized))
     right = panel(430, "ns per accepted call, against the chain's length", "answers in the chain, two by two; 12 and more", [0, 2, 4, 6, 8, 10, 12], by_chain(sized))
-    return ('<svg xmlns="http://www.w3.org/2000/svg" width="860" height="390" font-family="sans-serif" font-size="12">\n'
-            f'<rect width="860" height="390" fill="white"/>\n{left}\n{right}\n</svg>\n')
+    return ('<svg xmlns="http://www.w3.org/2000/svg" width="860" height="450" font-family="sans-serif" font-size="12">\n'
+            f'<rect width="860" height="450" fill="white"/>\n{left}\n{right}\n</svg>\n')
 
 
 def main(folder):
