@@ -2,6 +2,7 @@
 # Copies the thirteen originals, compares them byte for byte and builds the oracle, offline.
 # usage: [ENGINE=path of libengine.a] oracle/build.sh [folder with the originals, default ../shared/docs/src/src]
 # The folder may also hold them side by side, under names like src--src--subset--subset.rs.txt.
+# PROFILE chooses one of Cargo.toml's profiles, for measuring.
 # With ENGINE the engine is linked and can be compared; `rt staticlib engine` makes target/staticlib/libengine.a.
 set -eu
 here=$(cd "$(dirname "$0")" && pwd)
@@ -21,4 +22,4 @@ if [ -n "${ENGINE:-}" ]; then
 fi
 cd "$here"
 # shellcheck disable=SC2086
-exec cargo build --release --offline --quiet -j "${JOBS:-1}" $features
+exec cargo build --profile "${PROFILE:-release}" --offline --quiet -j "${JOBS:-1}" $features

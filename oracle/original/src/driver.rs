@@ -95,6 +95,15 @@ impl Instance {
         outcome(x[1], result)
     }
 
+    /// The original's call and nothing else, to be measured.
+    pub fn bare_propose(&mut self) -> Bare {
+        Bare(self.0.propose(&Plaintext(0), &mut NoRng))
+    }
+
+    pub fn bare_message(&mut self, sender: u64, message: Given) -> Bare {
+        Bare(self.0.handle_message(&sender, message.0))
+    }
+
     /// What the original itself answers.
     pub fn raw_propose(&mut self) -> String {
         format!("{:?}", self.0.propose(&Plaintext(0), &mut NoRng))
@@ -123,6 +132,24 @@ impl Instance {
     /// The inner state, which the original shows by `Debug` only.
     pub fn debug(&self) -> String {
         format!("{:?}", self.0)
+    }
+}
+
+/// What the original hands back, as it is.
+pub struct Bare(Result<Step<Plaintext, u64>>);
+
+impl Bare {
+    pub fn is_ok(&self) -> bool {
+        self.0.is_ok()
+    }
+}
+
+/// A message as the original takes it.
+pub struct Given(Message<u64>);
+
+impl Given {
+    pub fn new(x: &[u64; 5]) -> Given {
+        Given(message(x))
     }
 }
 

@@ -51,12 +51,23 @@ pub const CLASSES: [Class; 7] = [
 
 /// One run of so many calls.
 pub fn run(class: &Class, seed: u64, index: u64, calls: usize) -> Result<Vec<Record>, Trouble> {
+    run_with(class, seed, index, calls, |numbers| numbers)
+}
+
+/// The same, with create's numbers changed.
+pub fn run_with(
+    class: &Class,
+    seed: u64,
+    index: u64,
+    calls: usize,
+    change: impl Fn(Numbers) -> Numbers,
+) -> Result<Vec<Record>, Trouble> {
     let name = hash(&class.name.bytes().map(u64::from).collect::<Vec<_>>());
     let mut random = Random::new(&[seed, name, index]);
     // What two runs of a pair share is drawn from a generator of its own.
     let pair = if class.consistent { index / 2 } else { index };
     let mut shared = Random::new(&[seed, name, pair, 1]);
-    let numbers = choose_numbers(class, name, index, pair, &mut shared, &mut random);
+    let numbers = change(choose_numbers(class, name, index, pair, &mut shared, &mut random));
     let world = World {
         seed: shared.word(),
         n: numbers.n,

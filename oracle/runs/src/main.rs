@@ -2,6 +2,8 @@
 
 #[cfg(feature = "engine")]
 mod asker;
+#[cfg(feature = "engine")]
+mod bench;
 mod chooser;
 mod command;
 #[cfg(feature = "engine")]
@@ -45,7 +47,9 @@ const USAGE: &str = "usage: oracle command
        oracle pairs FILE...
 with the engine (see build.sh):
        oracle compare CLASS SEED RUNS CALLS
-       oracle groups SEED EPOCHS";
+       oracle groups SEED EPOCHS
+       oracle sized N F SEED RUNS CALLS
+       oracle bench REPEATS FILE...";
 
 fn main() {
     // Panics of the original are caught and reported with the call; ours are to be seen.
@@ -79,6 +83,20 @@ fn start(args: &[&str]) -> Result<(), Box<dyn Error>> {
         ["compare", class, seed, runs, calls] => compare([class, seed, runs, calls]),
         #[cfg(feature = "engine")]
         ["groups", seed, epochs] => Ok(rounds::run(seed.parse()?, epochs.parse()?)?),
+        #[cfg(feature = "engine")]
+        ["sized", n, ahead, seed, runs, calls] => {
+            let (seed, runs, calls) = (seed.parse()?, runs.parse()?, calls.parse()?);
+            let records = bench::runs(n.parse()?, ahead.parse()?, seed, runs, calls)?;
+            Ok(io::stdout().write_all(&record::bytes(&records))?)
+        }
+        #[cfg(feature = "engine")]
+        ["bench", repeats, files @ ..] => {
+            let repeats = repeats.parse()?;
+            for file in files {
+                bench::measure(file_name(file), &record::read(file)?, repeats)?;
+            }
+            Ok(())
+        }
         ["replay", "--no-state", files @ ..] => replay(files, false),
         ["replay", files @ ..] => replay(files, true),
         ["text", file] => Ok(print!("{}", record::text(&record::read(file)?)?)),
