@@ -9,19 +9,7 @@
 #include <string.h>
 #include <ucontext.h>
 
-uint64_t hb_create(uint64_t n, uint64_t f, uint64_t look_ahead, uint64_t own, uint64_t key, uint64_t strategy,
-                   uint64_t start_epoch, uint64_t schedule, uint64_t number_a, uint64_t number_b, uint64_t *state,
-                   size_t state_len);
-uint64_t hb_propose(uint64_t *state, size_t state_len, uint64_t *scratch, size_t scratch_len, const uint64_t *answers,
-                    size_t answers_len, uint64_t *step, size_t step_len);
-uint64_t hb_message(uint64_t sender, uint64_t epoch, uint64_t content, uint64_t proposer, uint64_t item,
-                    uint64_t *state, size_t state_len, uint64_t *scratch, size_t scratch_len, const uint64_t *answers,
-                    size_t answers_len, uint64_t *step, size_t step_len);
-uint64_t hb_skip(uint64_t target, uint64_t *state, size_t state_len);
-uint64_t hb_current_epoch(const uint64_t *state, size_t state_len, uint64_t *result);
-uint64_t hb_has_input(const uint64_t *state, size_t state_len, uint64_t *result);
-uint64_t hb_received_proposals(const uint64_t *state, size_t state_len, uint64_t *result);
-uint64_t hb_fault_count(const uint64_t *state, size_t state_len, uint64_t *result);
+#include "belkjund.h"
 
 enum { CREATE, PROPOSE, BROADCAST, AGREEMENT, SHARE, SKIP, QUERIES, KINDS };
 static const char *const kinds[KINDS] = {"create", "propose", "message, broadcast", "message, agreement", "message, share",
@@ -39,11 +27,23 @@ struct call {
     int kind;
 };
 
+/* A call with as many arguments as hb_message has, that does nothing. */
+static __attribute__((noinline)) uint64_t nothing(uint64_t a, uint64_t b, uint64_t c, uint64_t d, uint64_t e, uint64_t *f,
+                                                  size_t g, uint64_t *h, size_t i, const uint64_t *j, size_t k, uint64_t *l,
+                                                  size_t m)
+{
+    __asm__ volatile("" : : "r"(f), "r"(h), "r"(j), "r"(l));
+    return a + b + c + d + e + g + i + k + m;
+}
+
 static void make(struct call *c)
 {
     const uint64_t *x = c->record + 2;
     uint64_t result[4];
     switch (c->record[1]) {
+    case 0:
+        c->reply = nothing(x[0], x[0], x[0], x[0], x[0], state, 0, scratch, 0, x, 0, step, 0);
+        break;
     case 1:
         c->kind = CREATE;
         if (x[10] == 0)
@@ -107,8 +107,7 @@ static struct call now;
 static ucontext_t here, there;
 static unsigned char *frame;
 
-/* On the painted stack. The frame's address is where the stack of the call begins: its arguments and return address
-   count. */
+/* On the painted stack. */
 static void enter(void)
 {
     frame = __builtin_frame_address(0);
@@ -133,13 +132,15 @@ static size_t painted(void)
 static void stack(int count, char **names)
 {
     size_t most[KINDS] = {0};
-    uint64_t calls[KINDS] = {0};
+    uint64_t calls[KINDS] = {0}, none[3] = {3, 0, 0};
+    now.record = none;
+    size_t own = painted(); /* the driver's, with arguments and return address */
     for (int i = 0; i < count; i++) {
         size_t words;
         uint64_t *all = read_file(names[i], &words);
         for (size_t at = 0; at < words; at += all[at]) {
             now.record = all + at;
-            size_t used = painted();
+            size_t used = painted() - own;
             check(&now);
             calls[now.kind]++;
             if (used > most[now.kind])

@@ -3,11 +3,13 @@
 # usage: bench/run.sh ARCHIVE [REPEATS, default 15]
 # It needs cargo, a C compiler, python3 and the originals (oracle/README.md). Some two minutes; one core is enough, and it should be quiet.
 set -eu
+command -v cargo > /dev/null || { echo "bench: 'cargo' is missing: the original is in Rust; https://rustup.rs" >&2; exit 1; }
+command -v python3 > /dev/null || { echo "bench: 'python3' is missing; on Debian: apt-get install python3" >&2; exit 1; }
 [ $# -ge 1 ] || { sed -n '2,4p' "$0" | cut -c3-; exit 2; }
 here=$(cd "$(dirname "$0")" && pwd)
 archive=$(realpath "$1")
 repeats=${2:-15}
-out=$here/../target/bench
+out=${OUT:-$here/../target/bench}
 mkdir -p "$out/lib"
 rm -f "$out"/*.tsv "$out"/*.bin
 cp "$archive" "$out/lib/libengine.a"
@@ -17,7 +19,7 @@ cargo --version >> "$out/machine"
 sha256sum "$archive" | cut -c1-16 >> "$out/machine"
 for profile in speed lto; do
     echo "building the original and the oracle ($profile)"
-    ENGINE=$out/lib/libengine.a PROFILE=$profile "$here/../oracle/build.sh"
+    ENGINE=$out/lib/libengine.a PROFILE=$profile "$here/../oracle/build.sh" ${ORIGINALS:+"$ORIGINALS"}
 done
 speed=$here/../oracle/target/speed/oracle
 lto=$here/../oracle/target/lto/oracle
@@ -33,7 +35,7 @@ for size in n4-f3 n7-f3 n16-f15; do
 done
 "$speed" bench "$repeats" "$here"/../oracle/recorded/*.bin > "$out/recorded.tsv"
 echo "recorded runs measured"
-${CC:-cc} -std=c99 -O2 -Wall -Wextra -pedantic "$here/drive.c" "$out/lib/libengine.a" -Wl,-z,now -o "$out/drive"
+${CC:-cc} -std=c99 -O2 -Wall -Wextra -pedantic -I"$here/../include" "$here/drive.c" "$out/lib/libengine.a" -Wl,-z,now -o "$out/drive"
 for size in n4-f3 n7-f3 n16-f15; do
     "$out/drive" stack "$out/$size.bin" > "$out/stack-$size.txt"
 done

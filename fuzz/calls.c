@@ -7,7 +7,7 @@
 #include <string.h>
 #include <unistd.h>
 
-#include "engine.h"
+#include "belkjund.h"
 #include "rules.h"
 
 const char *const operation_names[OPERATIONS] = {"create", "propose", "message", "skip", "current_epoch", "has_input",
@@ -309,6 +309,8 @@ static void check(struct call *c, uint64_t refused)
         wrong("the document turns this call down with another reply");
     if (refused == 0 && (c->reply >= REPLIES || (listed(c->operation) >> c->reply & 1) == 0))
         wrong("a reply that the document does not list, or that its rules do not give here");
+    if (c->reply == 10 && c->step_len >= HB_STEP_WORDS)
+        wrong("a step table of the length that the header promises to be enough got 10");
     if (!lent_kept_from(&answers, 0))
         wrong("an answer changed");
     bool steps = c->operation == PROPOSE || c->operation == MESSAGE;

@@ -429,5 +429,5 @@ void plausible_call(struct call *c, const struct style *s, struct random *r)
     ask(&asker, c);
     lay_out(c, &asker, r);
     c->scratch_len = c->state_len + PICK(r, 0, 0, 1, 40);
-    c->step_len = PICK(r, 4096, 4096, 1024, 1024, 256 + below(r, 256), below(r, 64));
+    c->step_len = PICK(r, 4 * 1553, 4 * 1553, 4096, 1024, 1024, 256 + below(r, 256), below(r, 64));
 }
