@@ -9,7 +9,7 @@ ghost use Rattle.steps.specs.Answers.{tapeAt};
 ghost use Rattle.steps.specs.Steps.{out};
 ghost use Rattle.steps.specs.Runs.{leaves};
 ghost use Rattle.decryption.specs.Outcomes.{leftSet, leftValid, leftChecked, left, handled};
-ghost use Rattle.decryption.specs.Decrypt.{new, isSender, countShares, setCiphertext, isShareValid, checkShare, removeInvalidShares, startDecryption, tryOutput, storeShare, handleMessage};
+ghost use Rattle.decryption.specs.Decrypt.{new, isSender, countShares, setCiphertext, isShareValid, removeInvalidShares, startDecryption, tryOutput, storeShare, handleMessage};
 use steps::network_info::NetworkInfo;
 use steps::numbers::CIPHERTEXT_VERIFIES;
 use steps::numbers::CONTRIBUTION_DECRYPTED;
@@ -171,55 +171,6 @@ impl ThresholdDecrypt {
         }
     }
 
-    // Checks the share of one sender, and removes it if it is invalid.
-    fn check_share(
-        self,
-        sender: usize,
-        answers: &[u64],
-        place: &mut usize,
-        step: Step,
-        words: &mut [u64],
-    ) -> Removed
-        requires { ⌜ sender < 16 ⌝ }
-        ensures { λ r. ⌜ leftChecked r (tapeAt (now (answers .entry)) (now (place .exit))) (now (words .exit))
-            ≡ leaves (out step (now (words .entry))) (checkShare sender self (tapeAt (now (answers .entry)) (now (place .entry)))) ⌝ }
-    {
-        let mut td = self;
-        if td.shares[sender] == 0 {
-            return Removed {
-                td,
-                outcome: Checked::Done,
-                step,
-            };
-        }
-        match td.is_share_valid(sender, answers, place) {
-            Validity::Valid => Removed {
-                td,
-                outcome: Checked::Done,
-                step,
-            },
-            Validity::Invalid => {
-                td.shares[sender] = 0;
-                let faulted = step.fault(
-                    words,
-                    UNVERIFIED_DECRYPTION_SHARE_SENDER,
-                    sender as u64,
-                    0,
-                );
-                Removed {
-                    td,
-                    outcome: Checked::Done,
-                    step: faulted,
-                }
-            }
-            Validity::Refused => Removed {
-                td,
-                outcome: Checked::Refused,
-                step,
-            },
-        }
-    }
-
     // Removes all shares that are invalid, by rising sender, with a fault for each.
     fn remove_invalid_shares(
         self,
@@ -235,13 +186,23 @@ impl ThresholdDecrypt {
         let mut s = step;
         let mut i: usize = 0;
         while i < 16 {
-            let checked = td.check_share(i, answers, place, s, words);
-            let outcome = checked.outcome;
-            let Checked::Done = outcome else {
-                return checked;
-            };
-            td = checked.td;
-            s = checked.step;
+            let sender = i;
+            if td.shares[sender] != 0 {
+                match td.is_share_valid(sender, answers, place) {
+                    Validity::Valid => {}
+                    Validity::Invalid => {
+                        td.shares[sender] = 0;
+                        s = s.fault(words, UNVERIFIED_DECRYPTION_SHARE_SENDER, sender as u64, 0);
+                    }
+                    Validity::Refused => {
+                        return Removed {
+                            td,
+                            outcome: Checked::Refused,
+                            step: s,
+                        };
+                    }
+                }
+            }
             i += 1;
         }
         Removed {
