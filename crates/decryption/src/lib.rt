@@ -3,13 +3,14 @@
 // Shares and the ciphertext are handles; 0 stands for none. `answers`, `place`, `step` and `words` are the call's answers with the
 // place in them, and its step with the table that it is written to.
 ghost use mathlib.Core.Path.{_≡_};
-ghost use Prim.Native.Nat.{_<_};
+ghost use Prim.Native.Nat.{ℕ, _<_};
+ghost use mathlib.Core.List.{List};
 ghost use Rattle.steps.specs.Network.{Network};
 ghost use Rattle.steps.specs.Answers.{tapeAt};
 ghost use Rattle.steps.specs.Steps.{out};
 ghost use Rattle.steps.specs.Runs.{leaves};
 ghost use Rattle.decryption.specs.Outcomes.{leftSet, leftValid, leftChecked, left, handled};
-ghost use Rattle.decryption.specs.Decrypt.{new, isSender, countShares, setCiphertext, isShareValid, removeInvalidShares, startDecryption, tryOutput, storeShare, handleMessage};
+ghost use Rattle.decryption.specs.Decrypt.{new, isSender, countShares, setCiphertext, isShareValid, removeInvalidShares, combine, startDecryption, tryOutput, storeShare, handleMessage};
 use steps::network_info::NetworkInfo;
 use steps::numbers::CIPHERTEXT_VERIFIES;
 use steps::numbers::CONTRIBUTION_DECRYPTED;
@@ -291,6 +292,10 @@ impl ThresholdDecrypt {
         }
         let mut td = self;
         td.terminated = true;
+        // Starting again would change nothing.
+        if td.had_input {
+            return td.combine(answers, place, step);
+        }
         let started = td.start_decryption(net, proposer, answers, place, step, words);
         let outcome = started.outcome;
         let Outcome::Nothing = outcome else {
@@ -298,14 +303,22 @@ impl ThresholdDecrypt {
         };
         let last = started.td;
         let done = started.step;
+        last.combine(answers, place, done)
+    }
+
+    // Asks for the plaintext. It writes no words, so that the equation is one for any table.
+    fn combine(self, answers: &[u64], place: &mut usize, step: Step) -> Handled
+        ensures { λ r. ⌜ ((w : List ℕ) → left r (tapeAt (now (answers .entry)) (now (place .exit))) w
+            ≡ leaves (out step w) (combine self (tapeAt (now (answers .entry)) (now (place .entry))))) ⌝ }
+    {
         match steps::reader::ask(answers, place, CONTRIBUTION_DECRYPTED) {
             Answer::Got { a, b } => {
                 if a == 0 {
-                    return last.handled(Outcome::Decryption, done);
+                    return self.handled(Outcome::Decryption, step);
                 }
-                last.handled(Outcome::Plaintext(b), done)
+                self.handled(Outcome::Plaintext(b), step)
             }
-            Answer::Refused => last.handled(Outcome::Refused, done),
+            Answer::Refused => self.handled(Outcome::Refused, step),
         }
     }
 
