@@ -70,7 +70,7 @@ out-true (some x) (some (suc zero)) k e = refl
 out-true a (some (suc (suc d))) k e = absurd (omega arith)
 
 -- two tests that say the same
-same-tests : (x y : Bool) → (x ≡ true → y ≡ true) → (y ≡ true → x ≡ true) → x ≡ y
+pub same-tests : (x y : Bool) → (x ≡ true → y ≡ true) → (y ≡ true → x ≡ true) → x ≡ y
 same-tests true y f g = sym (f refl)
 same-tests false true f g = g refl
 same-tests false false f g = refl

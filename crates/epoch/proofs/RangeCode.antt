@@ -4,13 +4,22 @@ use mathlib.Core.Path.{_≡_, refl, sym, _∙_}
 use mathlib.Core.List.{List}
 use mathlib.Core.Bool.{Bool, true, false, _&&_, and-true, and-false, and-assoc}
 use native.Mathlib.Omega.{arith}
-use native.Mathlib.Nat.{mul-le-mul-right, suc-mul}
-use lib.ListN.{getD}
+use native.Mathlib.Nat.{mul-le-mul-right, suc-mul, add-mul, lt-of-lt-of-le}
+use lib.ListN.{length, getD, take, drop, length-drop}
+use lib.Seq.{length-take-le, getD-take, getD-drop}
 use lib.Dec.{eqb, leb, ltb}
 use lib.Bits.{bitOr, or-lt, or-add-and, and-le-l, and-le-r}
-use borrow.Author.Tests.{lt-ltb, le-ltb, ltb-true, ltb-false, ne-eqb}
-use Rattle.subset.specs.Words.{recordsAt, recordLength, epochLength, tagCompleteTrue}
-use Rattle.epoch.specs.Words.{maybeHandle, allFrom, recordInRange, recordsInRange, entryComplete}
+use borrow.Author.Tests.{le-leb, lt-ltb, le-ltb, ltb-true, ltb-false, ne-eqb}
+use Rattle.steps.proofs.Laws.{and-true as parts}
+use Rattle.steps.proofs.Ranges.{and-both}
+use Rattle.subset.specs.Words.{recordLength, recordAt, epochLength, tagCompleteTrue, statusOf, statusComplete, decidedAt, acceptedOf, countOf}
+use Rattle.subset.proofs.Ranges.{fieldLimit, two-some}
+use Rattle.epoch.specs.declared.SubsetHandlingStrategy.{SubsetHandlingStrategy}
+use Rattle.epoch.specs.Shape.{EpochWords}
+use Rattle.epoch.specs.Words.{maybeHandle, allFrom, recordInRange, smallInRange, recordsInRange, entryComplete, mostKept, epochInRange}
+use Rattle.epoch.proofs.BatchCode.{all-left}
+use Rattle.epoch.proofs.Holds.{same-tests}
+use Rattle.epoch.proofs.RangesWords.{all-at, all-every, record-below}
 
 -- two words joined are below a power of two where both are
 pub join-below : (a b k : ℕ) → ltb (bitOr a b) (2 ^ k) ≡ (ltb a (2 ^ k) && ltb b (2 ^ k))
@@ -21,7 +30,14 @@ join-below a b k = go (ltb a (2 ^ k)) (ltb b (2 ^ k)) refl refl
     go true false e f = le-ltb (bitOr a b) (2 ^ k) (omega (arith, or-add-and a b, and-le-l a b, ltb-false b (2 ^ k) f))
     go false y e f = le-ltb (bitOr a b) (2 ^ k) (omega (arith, or-add-and a b, and-le-r a b, ltb-false a (2 ^ k) e))
 
--- A ROW OF WORDS: one more, or none left
+-- A ROW OF WORDS, m from word i on, and what they are joined to
+abbrev Joins : ℕ → ℕ → ℕ → List ℕ → Type 0
+Joins r m i w = (k : ℕ) → ltb r (2 ^ k) ≡ allFrom (λ x. ltb x (2 ^ k)) m i w
+
+-- all of them, one more, or none left
+pub join-first : (k m : ℕ) (w : List ℕ) → ltb 0 (2 ^ k) && allFrom (λ x. ltb x (2 ^ k)) (m - 0) 0 w ≡ allFrom (λ x. ltb x (2 ^ k)) m 0 w
+join-first k m w = rw (lt-ltb 0 (2 ^ k) (two-some k), all-left m)
+
 module _ (k : ℕ) (w : List ℕ) (joined i end : ℕ) where
   abbrev rest : ℕ → Bool
   rest j = allFrom (λ x. ltb x (2 ^ k)) (end - j) j w
@@ -38,10 +54,32 @@ module _ (k : ℕ) (w : List ℕ) (joined i end : ℕ) where
       let e : end - i ≡ 0 = omega arith in
       rw e (sym (and-true (ltb joined (2 ^ k))))
 
-pub join-whole : (k m at : ℕ) (w : List ℕ) → allFrom (λ x. ltb x (2 ^ k)) (at + m - at) at w ≡ allFrom (λ x. ltb x (2 ^ k)) m at w
-join-whole k m at w =
-    let e : at + m - at ≡ m = omega arith in
-    rw e
+-- a row that is a slice of its own
+all-same : (is : ℕ → Bool) (m i j : ℕ) (v w : List ℕ) → ((k : ℕ) → k < m → getD v (i + k) 0 ≡ getD w (j + k) 0) → allFrom is m i v ≡ allFrom is m j w
+unfolding allFrom
+all-same is zero i j v w h = refl
+all-same is (suc m) i j v w h =
+    let e : getD v i 0 ≡ getD w j 0 = (let x : i + 0 ≡ i = omega arith in let y : j + 0 ≡ j = omega arith in rw (x, y) at (h 0 (omega arith))) in
+    rw (e, all-same is m (i + 1) (j + 1) v w (λ k l. let x : i + suc k ≡ i + 1 + k = omega arith in let y : j + suc k ≡ j + 1 + k = omega arith in rw (x, y) at (h (suc k) (omega arith))))
+
+abbrev part : ℕ → ℕ → List ℕ → List ℕ
+part m at w = take m (drop at w)
+
+all-part : (is : ℕ → Bool) (m at : ℕ) (w : List ℕ) → at + m ≤ length w → allFrom is (length (part m at w)) 0 (part m at w) ≡ allFrom is m at w
+all-part is m at w l =
+    let e : length (part m at w) ≡ m = length-take-le m (drop at w) (omega (arith, length-drop at w)) in
+    rw e (all-same is m 0 at (part m at w) w (λ k b. let z : 0 + k ≡ k = omega arith in rw z (getD-take m (drop at w) k 0 b ∙ getD-drop at w k 0)))
+
+joins-part : (r m at : ℕ) (w : List ℕ) → at + m ≤ length w → Joins r (length (part m at w)) 0 (part m at w) → Joins r m at w
+joins-part r m at w l h k = h k ∙ all-part (λ x. ltb x (2 ^ k)) m at w l
+
+all-split : (is : ℕ → Bool) (a b i : ℕ) (w : List ℕ) → allFrom is (a + b) i w ≡ allFrom is a i w && allFrom is b (i + a) w
+unfolding allFrom
+all-split is zero b i w = let x : 0 + b ≡ b = omega arith in let y : i + 0 ≡ i = omega arith in rw (x, y)
+all-split is (suc a) b i w =
+    let x : suc a + b ≡ suc (a + b) = omega arith in
+    let y : i + suc a ≡ i + 1 + a = omega arith in
+    rw (x, y, all-split is a b (i + 1) w) (sym (and-assoc (is (getD w i 0)) (allFrom is a (i + 1) w) (allFrom is b (i + 1 + a) w)))
 
 -- a row is 0 where it is below 1
 pub none-below : (x : ℕ) → eqb x 0 ≡ ltb x 1
@@ -53,49 +91,121 @@ unfolding allFrom
 all-alike f g h zero i w = refl
 all-alike f g h (suc m) i w = rw (h (getD w i 0), all-alike f g h m (i + 1) w)
 
-pub row-zero : (m i : ℕ) (w : List ℕ) (joined : ℕ) → ((k : ℕ) → ltb joined (2 ^ k) ≡ (ltb 0 (2 ^ k) && allFrom (λ x. ltb x (2 ^ k)) m i w))
-    → eqb joined 0 ≡ allFrom (λ x. eqb x 0) m i w
+row-zero : (m i : ℕ) (w : List ℕ) (joined : ℕ) → Joins joined m i w → eqb joined 0 ≡ allFrom (λ x. eqb x 0) m i w
 row-zero m i w joined h = none-below joined ∙ h 0 ∙ sym (all-alike _ _ none-below m i w)
 
 -- A RECORD, as the code tests it, is inside its epoch, whose words are few
 pub record-end : (n p : ℕ) → n ≤ 16 → p < n → (16 + p * (8 + n) + 8 + n ≤ epochLength n) × (epochLength n ≤ 400)
 record-end n p few l = (omega (arith, mul-le-mul-right (8 + n) l, suc-mul p (8 + n)), omega (arith, mul-le-mul-right (8 + n) few))
 
--- the handles are tested together
-together : (a v d p c h t r s : Bool) → a && (v && p && c && s) && d && h && t && r ≡ a && v && d && p && c && h && t && r && s
-together false v d p c h t r s = refl
-together true false d p c h t r s = refl
-together true true d false c h t r s = rw (and-false d)
-together true true d true false h t r s = rw (and-true d, and-false d)
-together true true d true true h t r false = rw (and-true d, and-true d, and-false (d && h && t && r))
-together true true d true true h t r true = rw (and-true d, and-true d, and-true (d && h && t && r))
+-- no limit in it is above that of a handle
+field-most : (n j : ℕ) → n ≤ 16 → fieldLimit n j ≤ 0x1_0000_0000
+field-most n zero h = omega arith
+field-most n (suc zero) h = omega arith
+field-most n (suc (suc zero)) h = omega arith
+field-most n (suc (suc (suc zero))) h = omega arith
+field-most n (suc (suc (suc (suc zero)))) h = omega arith
+field-most n (suc (suc (suc (suc (suc zero))))) h = omega arith
+field-most n (suc (suc (suc (suc (suc (suc zero)))))) h = omega arith
+field-most n (suc (suc (suc (suc (suc (suc (suc zero))))))) h = omega arith
+field-most n (suc (suc (suc (suc (suc (suc (suc (suc j)))))))) h = omega arith
 
-module _ (n p : ℕ) (w : List ℕ) where
-  abbrev at : ℕ
-  at = recordsAt + p * recordLength n
+all-five : (a b c d e : Bool) → a && b && c && d && e ≡ true → (a ≡ true) × (b ≡ true) × (c ≡ true) × (d ≡ true) × (e ≡ true)
+all-five a b c d e h =
+    let s4 = parts (a && b && c && d) e h in
+    let s3 = parts (a && b && c) d (s4 .0) in
+    let s2 = parts (a && b) c (s3 .0) in
+    let s1 = parts a b (s2 .0) in
+    (s1 .0, s1 .1, s2 .1, s3 .1, s4 .1)
 
-  abbrev word : ℕ → ℕ
-  word j = getD w (at + j) 0
+-- so its rule is that all its words are below 2^32 and the small ones below their own limits
+module _ (n : ℕ) (w : List ℕ) (p : ℕ) where
+  abbrev field : ℕ → ℕ
+  field j = getD w (recordAt n p j) 0
 
-  pub record-code : (handles : ℕ)
-      → ((k : ℕ) → ltb handles (2 ^ k) ≡ (ltb (bitOr (bitOr (word 1) (word 3)) (word 4)) (2 ^ k) && allFrom (λ x. ltb x (2 ^ k)) n (at + 8) w))
-      → leb (word 0) tagCompleteTrue && ltb handles (2 ^ 32) && leb (word 2) entryComplete && leb (word 5) 1 && leb (word 6) 1 && ltb (word 7) n ≡ recordInRange n w p
-  unfolding recordInRange
-  record-code handles s =
-      rw (s 32, join-below (bitOr (word 1) (word 3)) (word 4) 32, join-below (word 1) (word 3) 32)
-      (together (leb (word 0) tagCompleteTrue) (maybeHandle (word 1)) (leb (word 2) entryComplete) (maybeHandle (word 3)) (maybeHandle (word 4)) (leb (word 5) 1) (leb (word 6) 1)
-      (ltb (word 7) n) (allFrom maybeHandle n (at + 8) w))
+  abbrev handles : Bool
+  handles = allFrom maybeHandle (recordLength n) (recordAt n p 0) w
 
--- RECORDS: one more, or none left
+  both-of : n ≤ 16 → recordInRange n w p ≡ true → handles && smallInRange n w p ≡ true
+  unfolding smallInRange
+  both-of few e =
+      and-both _ _ (all-every maybeHandle (recordLength n) (recordAt n p 0) w (λ j l. lt-ltb _ _ (below j l)))
+      (and-both _ _ (and-both _ _ (and-both _ _ (and-both _ _
+      (le-leb (field 0) 4 (omega (arith, record-below n w p e 0 (omega arith))))
+      (le-leb (field 2) 2 (omega (arith, record-below n w p e 2 (omega arith)))))
+      (le-leb (field 5) 1 (omega (arith, record-below n w p e 5 (omega arith)))))
+      (le-leb (field 6) 1 (omega (arith, record-below n w p e 6 (omega arith)))))
+      (lt-ltb _ _ (record-below n w p e 7 (omega arith))))
+    where
+      below : (j : ℕ) → j < recordLength n → getD w (recordAt n p 0 + j) 0 < 0x1_0000_0000
+      below j l =
+          let z : recordAt n p 0 + j ≡ recordAt n p j = omega arith in
+          rw z (lt-of-lt-of-le (record-below n w p e j l) (field-most n j few))
+
+  of-both : handles && smallInRange n w p ≡ true → recordInRange n w p ≡ true
+  unfolding recordInRange smallInRange
+  of-both e =
+      let e = parts handles (smallInRange n w p) e in
+      let s = all-five (leb (field 0) tagCompleteTrue) (leb (field 2) entryComplete) (leb (field 5) 1) (leb (field 6) 1) (ltb (field 7) n) (e .1) in
+      and-both _ _ (and-both _ _ (and-both _ _ (and-both _ _ (and-both _ _ (and-both _ _ (and-both _ _ (and-both _ _
+      (s .0) (word (e .0) 1 (omega arith))) (s .1)) (word (e .0) 3 (omega arith))) (word (e .0) 4 (omega arith))) (s .2)) (s .3)) (s .4))
+      (all-every maybeHandle n (recordAt n p 8) w
+      (λ k l. let z : recordAt n p 8 + k ≡ recordAt n p (8 + k) = omega arith in rw z (word (e .0) (8 + k) (omega arith))))
+    where
+      word : handles ≡ true → (j : ℕ) → j < recordLength n → maybeHandle (field j) ≡ true
+      word h j l =
+          let z : recordAt n p 0 + j ≡ recordAt n p j = omega arith in
+          rw z at (all-at maybeHandle (recordLength n) (recordAt n p 0) w h j l)
+
+  record-both : n ≤ 16 → recordInRange n w p ≡ (handles && smallInRange n w p)
+  record-both few = same-tests _ _ (both-of few) of-both
+
+-- RECORDS: the small words of the next m, from p on
+unfoldable pub smallsInRange : ℕ → ℕ → ℕ → List ℕ → Bool
+smallsInRange n zero p w = true
+smallsInRange n (suc m) p w = smallInRange n w p && smallsInRange n m (p + 1) w
+
+apart : (a b c d : Bool) → (a && b) && (c && d) ≡ (a && c) && (b && d)
+apart false b c d = refl
+apart true b true d = refl
+apart true b false d = and-false b
+
+records-both : (n m p : ℕ) (w : List ℕ) → n ≤ 16 → recordsInRange n m p w ≡ allFrom maybeHandle (m * recordLength n) (recordAt n p 0) w && smallsInRange n m p w
+unfolding recordsInRange smallsInRange allFrom
+records-both n zero p w few = let z : 0 * recordLength n ≡ 0 = omega arith in rw z
+records-both n (suc m) p w few =
+    let z : suc m * recordLength n ≡ recordLength n + m * recordLength n = omega (arith, suc-mul m (recordLength n)) in
+    let y : recordAt n (p + 1) 0 ≡ recordAt n p 0 + recordLength n = omega (arith, add-mul p 1 (recordLength n)) in
+    rw (record-both n w p few, records-both n m (p + 1) w few, z, all-split maybeHandle (recordLength n) (m * recordLength n) (recordAt n p 0) w, y)
+    (apart (handles n w p) (smallInRange n w p) (allFrom maybeHandle (m * recordLength n) (recordAt n p 0 + recordLength n) w) (smallsInRange n m (p + 1) w))
+
+-- one more, or none left
 module _ (n : ℕ) (w : List ℕ) (ok : Bool) (p : ℕ) where
-  pub records-turn : p < n → (ok && recordInRange n w p) && recordsInRange n (n - (p + 1)) (p + 1) w ≡ ok && recordsInRange n (n - p) p w
-  unfolding recordsInRange
-  records-turn l =
+  pub smalls-turn : p < n → (ok && smallInRange n w p) && smallsInRange n (n - (p + 1)) (p + 1) w ≡ ok && smallsInRange n (n - p) p w
+  unfolding smallsInRange
+  smalls-turn l =
       let e : n - p ≡ suc (n - (p + 1)) = omega arith in
-      rw e (and-assoc ok (recordInRange n w p) (recordsInRange n (n - (p + 1)) (p + 1) w))
+      rw e (and-assoc ok (smallInRange n w p) (smallsInRange n (n - (p + 1)) (p + 1) w))
 
-  pub records-over : n ≤ p → ok ≡ (ok && recordsInRange n (n - p) p w)
-  unfolding recordsInRange
-  records-over l =
+  pub smalls-over : n ≤ p → ok ≡ (ok && smallsInRange n (n - p) p w)
+  unfolding smallsInRange
+  smalls-over l =
       let e : n - p ≡ 0 = omega arith in
       rw e (sym (and-true ok))
+
+-- THE EPOCH: its own words, all words of its records together, and the small ones of each
+module _ (strategy : SubsetHandlingStrategy) (n : ℕ) (w : List ℕ) where
+  abbrev four : Bool
+  four = leb (statusOf w) statusComplete && leb (getD w decidedAt 0) 1 && ltb (acceptedOf w) (2 ^ n) && leb (countOf w) (mostKept strategy n)
+
+  pub epoch-code : (reserved joined : ℕ) → EpochWords n w → Joins reserved (length (part 12 4 w)) 0 (part 12 4 w)
+      → Joins joined (length (part (length w - 16) 16 w)) 0 (part (length w - 16) 16 w)
+      → (four && eqb reserved 0 && ltb joined (2 ^ 32)) && smallsInRange n n 0 w ≡ epochInRange strategy n w
+  unfolding epochInRange
+  epoch-code reserved joined h r s =
+      let own = four && allFrom (λ x. eqb x 0) 12 4 w in
+      let z : recordAt n 0 0 ≡ 16 = omega arith in
+      let e : length w - 16 ≡ n * recordLength n = omega (arith, h .long) in
+      let j : ltb joined (2 ^ 32) ≡ allFrom maybeHandle (n * recordLength n) 16 w = rw e at (joins-part joined (length w - 16) 16 w (omega (arith, h .long)) s 32) in
+      rw (row-zero 12 4 w reserved (joins-part reserved 12 4 w (omega (arith, h .long)) r), j, records-both n n 0 w (h .few), z)
+      (and-assoc own (allFrom maybeHandle (n * recordLength n) 16 w) (smallsInRange n n 0 w))

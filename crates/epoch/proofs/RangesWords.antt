@@ -129,7 +129,7 @@ module _ (n : ℕ) (w : List ℕ) (p : ℕ) where
       let z : recordAt n p (suc (suc (suc (suc (suc (suc (suc (suc j)))))))) ≡ shareAt n p 0 + j = omega arith in
       rw z (f8 j (omega arith))
 
-  record-below : recordInRange n w p ≡ true → (j : ℕ) → j < recordLength n → getD w (recordAt n p j) 0 < fieldLimit n j
+  pub record-below : recordInRange n w p ≡ true → (j : ℕ) → j < recordLength n → getD w (recordAt n p j) 0 < fieldLimit n j
   unfolding recordInRange
   record-below e =
       let e8 = and-true _ _ e in

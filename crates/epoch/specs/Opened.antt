@@ -10,7 +10,7 @@ unfoldable pub opened : Unit {0}
 unfolding DecryptionOpened.opened SubsetOpened.opened
     Words.isAccepted Words.accept Words.asks Words.isSettled Words.isOpen Words.sharesFrom Words.loadInstance
     Words.loadEntry Words.loadDecryption Words.setShares Words.storeEntry Words.storeDecryption Words.allFrom
-    Words.recordInRange Words.recordsInRange Words.mostKept Words.epochInRange
+    Words.recordInRange Words.smallInRange Words.recordsInRange Words.mostKept Words.epochInRange
     Epoch.receivedProposals Epoch.firstContributions Epoch.entryAfter Epoch.unexpectedFrom Epoch.unexpectedShares
     Epoch.handlesNow Epoch.subsetComplete Epoch.proposalDropped Epoch.processDecryption Epoch.callEntry
     Epoch.inputCiphertext Epoch.sendDecryptionShare Epoch.handleDecryptionShare Epoch.finishAt Epoch.finishFrom

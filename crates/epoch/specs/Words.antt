@@ -153,6 +153,15 @@ recordInRange n w p =
     && ltb (getD w (arrivalAt n p) 0) n
     && allFrom maybeHandle n (shareAt n p 0) w
 
+-- those of its words with smaller limits, for the code, which tests all words of the records together for 2^32 (proofs/RangeCode: both are the rule)
+unfoldable pub smallInRange : ℕ → List ℕ → ℕ → Bool
+smallInRange n w p =
+    leb (getD w (proposalAt n p) 0) tagCompleteTrue
+    && leb (getD w (decryptionAt n p) 0) entryComplete
+    && leb (getD w (hadInputAt n p) 0) 1
+    && leb (getD w (terminatedAt n p) 0) 1
+    && ltb (getD w (arrivalAt n p) 0) n
+
 unfoldable pub recordsInRange : ℕ → ℕ → ℕ → List ℕ → Bool
 recordsInRange n zero p w = true
 recordsInRange n (suc m) p w = recordInRange n w p && recordsInRange n m (p + 1) w

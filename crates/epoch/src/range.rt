@@ -1,21 +1,18 @@
-// The range rule of an epoch's words (docs/STATE.md). The check of a call reads every word of the state: its loops do not branch, and a row of
-// handles is joined and tested once.
+// The range rule of an epoch's words (docs/STATE.md). The check of a call reads every word of the state: its loops do not branch. Every word of a
+// record is below 2^32, so all words of all records are joined and tested once, in a loop over a slice of their own that the compiler makes a
+// vector loop of; the words with smaller limits are then tested one by one.
 ghost use mathlib.Core.Path.{_≡_};
-ghost use mathlib.Core.Bool.{_&&_};
-ghost use Prim.Native.Nat.{ℕ, _+_, _^_, _<_, _≤_};
+ghost use Prim.Native.Nat.{ℕ, _^_, _<_};
 ghost use lib.ListN.{length};
 ghost use lib.Dec.{ltb};
 ghost use Rattle.epoch.specs.Shape.{EpochWords};
-ghost use Rattle.epoch.specs.Words.{allFrom, recordInRange, mostKept, epochInRange};
+ghost use Rattle.epoch.specs.Words.{allFrom, smallInRange, mostKept, epochInRange};
 use crate::SubsetHandlingStrategy;
 use crate::tags::ENTRY_COMPLETE;
 use crate::words::ACCEPTED_AT;
-use crate::words::CIPHERTEXT_FIELD;
 use crate::words::DECRYPTION_FIELD;
 use crate::words::HAD_INPUT_FIELD;
-use crate::words::PLAINTEXT_FIELD;
 use crate::words::RESERVED_AT;
-use crate::words::SHARES_FIELD;
 use crate::words::STATUS_AT;
 use crate::words::STATUS_COMPLETE;
 use crate::words::TERMINATED_FIELD;
@@ -27,34 +24,27 @@ use subset::words::PROPOSAL_FIELD;
 use subset::words::RECORD_FIELDS;
 use subset::words::RECORDS_AT;
 use subset::words::TAG_COMPLETE_TRUE;
-use subset::words::VALUE_FIELD;
 
-// `start` and the m words from word `at` on, joined bit by bit: below a power of two where each of them is.
-fn join(epoch: &[u64], start: u64, at: usize, m: usize) -> u64
-    requires { ⌜ at + m ≤ length (now epoch) ⌝ }
-    ensures { λ r. ⌜ ((k : ℕ) → ltb r (2 ^ k)
-        ≡ (ltb start (2 ^ k) && allFrom (λ x. ltb x (2 ^ k)) m at (now (epoch .entry)))) ⌝ }
+// The words joined bit by bit: below a power of two where each of them is.
+fn join(words: &[u64]) -> u64
+    ensures { λ r. ⌜ ((k : ℕ) → ltb r (2 ^ k) ≡ allFrom (λ x. ltb x (2 ^ k)) (length (now (words .entry))) 0 (now (words .entry))) ⌝ }
 {
-    let end = at + m;
-    let mut joined = start;
-    let mut i = at;
-    while i < end {
-        joined = joined | epoch[i];
+    let mut joined: u64 = 0;
+    let mut i: usize = 0;
+    while i < words.len() {
+        joined = joined | words[i];
         i += 1;
     }
     joined
 }
 
-// Whether the words of proposer p's record are in range.
-fn record_in_range(epoch: &[u64], n: usize, p: usize) -> bool
+// Whether the words of proposer p's record that have smaller limits than handles keep them.
+fn small_in_range(epoch: &[u64], n: usize, p: usize) -> bool
     requires { ⌜ EpochWords n (now epoch) × (p < n) ⌝ }
-    ensures { λ r. ⌜ r ≡ recordInRange n (now (epoch .entry)) p ⌝ }
+    ensures { λ r. ⌜ r ≡ smallInRange n (now (epoch .entry)) p ⌝ }
 {
     let at = RECORDS_AT + p * (RECORD_FIELDS + n);
-    let own = epoch[at + VALUE_FIELD] | epoch[at + PLAINTEXT_FIELD] | epoch[at + CIPHERTEXT_FIELD];
-    let handles = join(epoch, own, at + SHARES_FIELD, n);
     (epoch[at + PROPOSAL_FIELD] <= TAG_COMPLETE_TRUE)
-        & (handles < HANDLE_LIMIT + 1)
         & (epoch[at + DECRYPTION_FIELD] <= ENTRY_COMPLETE)
         & (epoch[at + HAD_INPUT_FIELD] <= 1)
         & (epoch[at + TERMINATED_FIELD] <= 1)
@@ -78,15 +68,17 @@ pub fn epoch_in_range(epoch: &[u64], strategy: SubsetHandlingStrategy, n: usize)
 {
     let limit: u64 = 1 << n;
     let most = most_kept(strategy, n);
-    let reserved = join(epoch, 0, RESERVED_AT, RECORDS_AT - RESERVED_AT);
+    let reserved = join(&epoch[RESERVED_AT..RECORDS_AT]);
+    let joined = join(&epoch[RECORDS_AT..]);
     let mut ok = (epoch[STATUS_AT] <= STATUS_COMPLETE)
         & (epoch[DECIDED_AT] <= 1)
         & (epoch[ACCEPTED_AT] < limit)
         & (epoch[COUNT_AT] <= most)
-        & (reserved == 0);
+        & (reserved == 0)
+        & (joined < HANDLE_LIMIT + 1);
     let mut p: usize = 0;
     while p < n {
-        ok = ok & record_in_range(epoch, n, p);
+        ok = ok & small_in_range(epoch, n, p);
         p += 1;
     }
     ok
