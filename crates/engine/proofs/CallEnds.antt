@@ -5,9 +5,10 @@ use mathlib.Core.Path.{_≡_, refl, sym, ap, _∙_}
 use mathlib.Core.List.{List, [], _∷_, _++_}
 use mathlib.Core.Bool.{Bool, true, false}
 use lib.ListN.{length, drop, replicate}
-use lib.Seq.{drop-append-add, drop-drop}
+use lib.Seq.{drop-append-add, drop-drop, getD-set-other}
 use lib.Dec.{leb}
 use borrow.Author.Tests.{lt-ltb, le-ltb, leb-true, leb-false}
+use Rattle.steps.specs.Numbers.{faultLimit}
 use Rattle.steps.specs.Answers.{Tape, chain}
 use Rattle.steps.specs.declared.step.Step.{Step}
 use Rattle.steps.specs.Steps.{Entry, fault, faults, messages, outputs, out, putAll, putEntry, counting, Counted, writing, records, putHeader, written}
@@ -18,17 +19,21 @@ use Rattle.steps.proofs.Finished.{finished-failed, finished-exact, finished}
 use Rattle.epoch.specs.declared.epoch_state.Outcome.the-variants.{Done, Refused, Failed}
 use Rattle.epoch.specs.Outcomes.{outcomeVerdict}
 use Rattle.subset.specs.Words.{epochLength}
-use Rattle.state.specs.State.{nodes, scratchOf, stateOk}
+use Rattle.state.specs.State.{nodes, inputAt, faultsAt, faultCount, scratchOf, stateOk}
 use Rattle.state.proofs.WordsCode.{place-inside}
 use Rattle.state.proofs.RangeCode.{ok-words}
+use Rattle.state.proofs.RangesState.{header-ok}
+use Rattle.work.specs.declared.honey_badger.Call.{Call}
+use Rattle.work.specs.declared.honey_badger.Call.the-variants.{Propose, Message}
 use Rattle.work.specs.declared.honey_badger.Ran.{Ran}
 use Rattle.engine.specs.Calls.{after, zeroed, countFaults, isEnd, concludeAs, conclude}
 use Rattle.work.specs.Work.{Worked, worked, committed}
 use Rattle.engine.specs.Shape.{settled, allRead, asDone}
-use Rattle.work.specs.Shape.{leftRan, countMore}
+use Rattle.work.specs.Shape.{callBase, leftRan, countMore}
 use Rattle.engine.proofs.Refusals.{scratch-is}
 use Rattle.engine.proofs.Settled.{count-none}
 use Rattle.work.proofs.Bounded.{CountedExactly}
+use Rattle.work.proofs.Works.{over-same, over-input, commit-count}
 
 -- THE END of a chain
 pub end-zero : (t : List ℕ) → true ≡ isEnd (chain t 0)
@@ -85,7 +90,7 @@ pub rest-done : (w s table : List ℕ) (e : ℕ) (p : Tape) (k : Step) → k ≡
     → after 0 w s (putHeader table k e) ≡ conclude (ends (going tt) w p) e w s table
 unfolding putAll messages faults outputs
 rest-done w s table e p k K ok f l =
-    after-same 0 _ _ s s _ _ (sym (count-none w ok)) refl (ap (λ (k : Step). putHeader table k e) K ∙ finished-exact [] table e (omega arith) (omega arith))
+    after-same 0 _ _ s s _ _ (sym (count-none w (header-ok w ok .counted))) refl (ap (λ (k : Step). putHeader table k e) K ∙ finished-exact [] table e (omega arith) (omega arith))
     ∙ still-done w s table e p [] f (omega arith)
 
 pub one-fault : (w : List ℕ) (k a b : ℕ) → countMore w 1 ≡ countFaults w (fault k a b ∷ [])
@@ -115,7 +120,7 @@ module _ (f : Entry) (j : Step) (J : j ≡ counting) (k : Step) (v : List ℕ) (
       ∙ finished (f ∷ []) [] table e (omega arith) (omega arith) in
       after-same 0 _ _ s s _ _ refl refl step ∙ still-done w s table e p (f ∷ []) r (omega arith)
 
--- A FAILED CALL, in epoch e, on the state v that its commit writes on
+-- A FAILED CALL, or one with an empty step, in epoch e, on the state v that its commit writes on
 module _ (w v s table : List ℕ) (e c : ℕ) (x : Worked) where
   pub failed-full : length table < 4 → after 10 w s table ≡ settled (ends (failed c) x allRead) e v w s table
   unfolding concludeAs isEnd
@@ -153,6 +158,19 @@ module _ (w v s table : List ℕ) (e : ℕ) (R : Run Worked (Unit {0})) (few : C
       ∙ few .finishes [] table e room in
       rw (step, n, state, le-ltb (length table / 4) (1 + length (R .log)) room)
 
+-- THE COMMIT leaves a fault count in range, since it writes none
+pub commit-counted : (call : Call) (w : List ℕ) → stateOk w ≡ true → (e : ℕ) (x : Worked) → length (x .words) ≡ epochLength (nodes w)
+    → faultCount (committed (callBase call w) e x) ≤ faultLimit
+commit-counted Propose w ok e x l =
+    omega (arith, header-ok w ok .counted, getD-set-other w inputAt faultsAt 1 0 (omega arith), commit-count (nodes w) _ _ (over-input w ok .shape) e x l)
+commit-counted (Message sender proposer content) w ok e x l =
+    omega (arith, header-ok w ok .counted, commit-count (nodes w) _ _ (over-same w ok .shape) e x l)
+
+-- a list of no entries
+none-in : (log : List Entry) → length log ≡ 0 → log ≡ []
+none-in [] z = refl
+none-in (a ∷ log) z = absurd (omega arith)
+
 -- AFTER THE FIRST RUN, which left this of R; its table had no words
 module _ (w v s table t : List ℕ) (T : t ≡ table) (e : ℕ) (R : Run Worked (Unit {0})) (r : Ran) (x : List ℕ) (p : Tape) (u : List ℕ)
     (k : Step) (K : k ≡ counting) (E : leftRan r x p u ≡ leaves (out k []) R) where
@@ -167,6 +185,9 @@ module _ (w v s table t : List ℕ) (T : t ≡ table) (e : ℕ) (R : Run Worked 
 
   pub first-step : r .step ≡ putAll (out counting []) (R .log) .step
   first-step = ap (λ (d : Left Worked (Unit {0})). d .out .step) E ∙ ap (λ (k : Step). putAll (out k []) (R .log) .step) K
+
+  pub first-counted : Counted (r .step)
+  first-counted = rw first-step (counted (R .log) [])
 
   pub first-refused : r .outcome ≡ Refused → after 8 w s t ≡ settled R e v w s table
   unfolding concludeAs numberOf
@@ -189,3 +210,11 @@ module _ (w v s table t : List ℕ) (T : t ≡ table) (e : ℕ) (R : Run Worked 
     pub done-read : isEnd (p .rest) ≡ true → settled (asDone R) e v w s t ≡ settled R e v w s table
     unfolding concludeAs isEnd
     done-read f = rw (T, verdict-is, h, tape-is, f)
+
+    -- nothing was counted: the log is empty, and what a failure would leave is left, with the number of success
+    pub done-empty : isEnd (p .rest) ≡ true → CountedExactly (R .log) → records (r .step) ≡ 1 → faultCount (committed v e (worked x (r .next))) ≤ faultLimit
+        → settled (ends (failed 0) (worked x (r .next)) allRead) e v w s t ≡ settled R e v w s table
+    unfolding concludeAs isEnd numberOf
+    done-empty f few one low =
+        let z : 1 + length (R .log) ≡ 1 = sym (few .records []) ∙ sym (ap records first-step) ∙ one in
+        rw (T, verdict-is, h, tape-is, f, state-is, none-in (R .log) (omega arith), count-none (committed v e (worked x (r .next))) low)

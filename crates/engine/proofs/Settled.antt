@@ -1,5 +1,5 @@
 -- What a call that passed its checks comes to, by runs on one epoch's words and a commit: in reply and in every word. Assumes nothing.
-use Prim.Native.Nat.{ℕ, _+_}
+use Prim.Native.Nat.{ℕ, _+_, _≤_}
 use mathlib.Core.Path.{_≡_, refl, ap, _∙_}
 use mathlib.Core.List.{List, [], _∷_}
 use mathlib.Core.Bool.{Bool, true, false, cond}
@@ -19,7 +19,6 @@ use Rattle.work.specs.HoneyBadger.{propose, handleMessage}
 use Rattle.engine.specs.Calls.{countFaults, conclude}
 use Rattle.work.specs.Work.{proposeWork, messageWork, committed}
 use Rattle.engine.specs.Shape.{settled}
-use Rattle.state.proofs.RangesState.{header-ok}
 use Rattle.work.proofs.Works.{propose-apart, message-apart}
 
 -- the runs that `proposeAfter` and `messageCall` conclude
@@ -63,9 +62,9 @@ module _ (state : List ℕ) (ok : stateOk state ≡ true) (p : Tape) (scratch st
       go false true = refl
       go false false = refl
 
--- a step without faults leaves the count: an observer's propose and a late message change no word
-pub count-none : (w : List ℕ) → stateOk w ≡ true → countFaults w [] ≡ w
+-- a step without faults leaves a count that is in range
+pub count-none : (w : List ℕ) → faultCount w ≤ faultLimit → countFaults w [] ≡ w
 unfolding countFaults faults
-count-none w ok =
+count-none w few =
     let z : faultCount w + 0 ≡ faultCount w = omega arith in
-    rw (z, le-leb (faultCount w) faultLimit (header-ok w ok .counted)) (set-getD w faultsAt 0)
+    rw (z, le-leb (faultCount w) faultLimit few) (set-getD w faultsAt 0)

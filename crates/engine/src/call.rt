@@ -1,4 +1,4 @@
-// The way of a call that has passed its checks: a first run that only counts, 8, 9 and 10, a second run that writes, then the commit.
+// The way of a call that has passed its checks: a first run that only counts, 8, 9 and 10, a second run that writes if there are records, then the commit.
 // What is left in scratch is cleared by the caller.
 ghost use mathlib.Core.Path.{_≡_};
 ghost use lib.ListN.{length};
@@ -82,26 +82,27 @@ pub fn too_early(
     SUCCESS
 }
 
-// A run that has failed: what it changed stays, its step is lost.
-fn fail(
+// A run whose step has no record: it failed, and its step is lost, or it is done and wrote none (`done-empty` in proofs/CallEnds.antt).
+// What it changed stays.
+fn close(
     state: &mut [u64],
     words: &[u64],
     epoch: u64,
     call: Call,
     next: u64,
-    error: u64,
+    number: u64,
     table: &mut [u64],
 ) -> u64
     requires { ⌜ StateWords (now state) × (length (now words) ≡ epochLength (nodes (now state))) ⌝ }
     ensures { λ r. ⌜ ((scratch : List ℕ) → after r (now (state .exit)) scratch (now (table .exit))
-        ≡ settled (ends (failed error) (worked (now (words .entry)) next) allRead) epoch (callBase call (now (state .entry))) (now (state .entry)) scratch (now (table .entry))) ⌝ }
+        ≡ settled (ends (failed number) (worked (now (words .entry)) next) allRead) epoch (callBase call (now (state .entry))) (now (state .entry)) scratch (now (table .entry))) ⌝ }
 {
     if table.len() < 4 {
         return STEP_TABLE_TOO_SHORT;
     }
     commit(state, call, epoch, words, next);
     Step::counting().header(table, epoch);
-    error
+    number
 }
 
 // A run that is done: the second run writes its step, then the state is written.
@@ -141,7 +142,7 @@ fn finish(
     SUCCESS
 }
 
-// Both runs and the commit, with the words of the call's epoch.
+// Both runs and the commit, with the words of the call's epoch. A step without records, as most are, needs no second run.
 fn run_twice(
     state: &mut [u64],
     words: &mut [u64],
@@ -176,11 +177,14 @@ fn run_twice(
             if !read {
                 return ANSWERS_UNREAD;
             }
-            fail(state, words, epoch, call, next, error, table)
+            close(state, words, epoch, call, next, error, table)
         }
         Outcome::Done => {
             if !read {
                 return ANSWERS_UNREAD;
+            }
+            if counted.records() == 1 {
+                return close(state, words, epoch, call, next, SUCCESS, table);
             }
             finish(state, words, epoch, call, answers, counted, table)
         }

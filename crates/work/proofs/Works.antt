@@ -90,6 +90,13 @@ mut-inside n f w h e p = rw (h .nodes) (go (isVacant x) (ask p 1 .answer))
     go true Refused = rw (with-own w e)
     go false y = rw (with-own w e)
 
+-- THE COMMIT writes no fault count: `countFaults` alone does
+pub commit-count : (n f : ℕ) (v : List ℕ) → Shaped n f v → (e : ℕ) (s : Worked) → length (s .words) ≡ epochLength n → faultCount (committed v e s) ≡ faultCount v
+unfolding committed
+commit-count n f v h e s size =
+    skip-head n f _ _ (with-shaped n f v h e (s .words) size) faultsAt (omega arith) (omega arith) (omega arith)
+    ∙ with-head n f v h e (s .words) size faultsAt (omega arith)
+
 -- THE STATE THAT IS WRITTEN, v, beside the one that is read, w: the same but for what comes after the current epoch in the header
 pub record Over (w v : List ℕ) : Type 0 where
   pub shape : Shaped (nodes w) (ahead w) v
@@ -207,13 +214,9 @@ module _ (w v : List ℕ) (over : Over w v) (e : ℕ) (low : currentEpoch w ≤ 
         go refused = refl
         go (failed x) = refl
 
-    -- the commit writes no fault count: `countFaults` alone does
     pub commit-counts : faultCount (committed v e (workIn w e body p .state)) ≡ faultCount v
-    unfolding committed
     commit-counts =
-        let size : length (workIn w e body p .state .words) ≡ epochLength (nodes w) = ap length work-words ∙ full in
-        skip-head (nodes w) (ahead w) _ _ (after-shaped _ size) faultsAt (omega arith) (omega arith) (omega arith)
-        ∙ with-head (nodes w) (ahead w) v (over .shape) e _ size faultsAt (omega arith)
+        commit-count (nodes w) (ahead w) v (over .shape) e (workIn w e body p .state) (ap length work-words ∙ full)
 
     -- where the run fails no batch went out: the epoch's words alone are written
     pub failed-keeps : (error : ℕ) → workIn w e body p .verdict ≡ failed error

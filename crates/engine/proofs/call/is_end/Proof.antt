@@ -6,11 +6,11 @@ use Rattle.engine.proofs.call.is_end.Tie as tie
 use Rattle.engine.proofs.call.is_end.Reads as reads
 use Rattle.engine.proofs.call.is_end.Lts as lts
 
--- src/call.rt:37:9
+-- src/call.rt:38:9
 returns : tie.Need-returns
 returns c = rw (c .if1 .taken) (end-zero (c .before .args .answers .now))
 
--- src/call.rt:33:1
+-- src/call.rt:34:1
 returns-2 : tie.Need-returns-2
 returns-2 c = end-at (c .before .args .answers .now) (c .before .args .place) (c .if1 .left)
 

@@ -16,39 +16,39 @@ use Rattle.steps.proofs.step.Step.counting.Reads as counting-reads
 use Rattle.steps.proofs.step.Step.header.Reads as header-reads
 use Rattle.steps.proofs.step.Step.writing.Reads as writing-reads
 
--- src/call.rt:48:25
+-- src/call.rt:49:25
 shared-slice-read-is-end : tie.Need-shared-slice-read-is-end
 shared-slice-read-is-end c = search needs
 
--- src/call.rt:48:9
+-- src/call.rt:49:9
 is-end-requires : tie.Need-is-end-requires
 is-end-requires c κs = search needs
 
--- src/call.rt:49:9
+-- src/call.rt:50:9
 returns : tie.Need-returns
 returns c = λ s. still-unread (c .before .before .before .before .before .before .args .state .now) s (c .before .before .before .before .before .before .args .table .now) (c .before .before .before .before .before .before .args .epoch) (tapeOf (c .before .before .before .before .before .before .args .answers .now)) [] (sym (c .before .is-end .ensures) ∙ not-true _ (c .if1 .taken))
 
--- src/call.rt:52:9
+-- src/call.rt:53:9
 returns-2 : tie.Need-returns-2
 returns-2 c = λ s. still-full (c .before .before .before .before .before .before .before .args .state .now) s (c .before .before .before .before .before .before .before .args .table .now) (c .before .before .before .before .before .before .before .args .epoch) (tapeOf (c .before .before .before .before .before .before .before .args .answers .now)) [] (sym (c .before .before .is-end .ensures) ∙ not-false _ (c .before .if1 .left)) (omega (arith, c .if2 .taken))
 
--- src/call.rt:54:5
+-- src/call.rt:55:5
 counting-requires : tie.Need-counting-requires
 counting-requires c κs = search needs
 
--- src/call.rt:54:5
+-- src/call.rt:55:5
 writing-requires : tie.Need-writing-requires
 writing-requires c κs = none-counted _ (c .counting .ensures)
 
--- src/call.rt:54:5
+-- src/call.rt:55:5
 header-requires : tie.Need-header-requires
 header-requires c κs = search needs
 
--- src/call.rt:43:1
+-- src/call.rt:44:1
 same-length : tie.Need-same-length
 same-length c = search needs
 
--- src/call.rt:43:1
+-- src/call.rt:44:1
 returns-3 : tie.Need-returns-3
 returns-3 c = λ s.
     after-same 0 _ _ s s _ _ refl refl (c .before .before .header .ensures)
