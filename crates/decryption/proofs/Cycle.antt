@@ -14,7 +14,7 @@ use Rattle.steps.specs.declared.reader.Answer.the-variants.{Got, Refused as NoA
 use Rattle.steps.specs.Network.{Network, isValidator}
 use Rattle.steps.specs.Answers.{Tape, asked, ask, askAbout}
 use Rattle.steps.specs.Steps.{Out, putEntry, putAll, message}
-use Rattle.steps.specs.Runs.{Verdict, going, refused, failed, Run, ends, before, onward, heard, Left, leaves}
+use Rattle.steps.specs.Runs.{Verdict, going, refused, failed, Run, ends, before, onwardAs, onward, heard, Left, leaves}
 use Rattle.steps.proofs.Laws.{and-true}
 use Rattle.steps.proofs.Runs.{onward-go, onward-refused, onward-stop, onward-at, onward-cong, heard-cong, heard-got, heard-none}
 use Rattle.decryption.specs.Decrypt.{withShares, withInput, withEnd, isSender, countShares, isShareValid, checkShare, removeFrom, removeInvalidShares, ownShare, startWith, combine, tryWith, startDecryption, tryOutput}
@@ -133,6 +133,11 @@ module _ (net : NetworkInfo) (proposer : ℕ) where
   pub try-onward : (td : ThresholdDecrypt) (p : Tape) → td .terminated ≡ false → net .«num_faulty» < countShares (td .shares) → (td .ciphertext ≡ 0 → ⊥) → tryOutput net proposer td p ≡ onward (startDecryption net proposer (withEnd td) p) (λ _ td q. combine td q)
   unfolding tryOutput tryWith
   try-onward td p e h z = rw (e, lt-leb _ _ h, ne-eqb _ _ z) (ap (λ r. onward r (λ _ td q. combine td q)) (start-ended td p))
+
+  -- once it has started, the shares are combined at once
+  pub try-started : (td : ThresholdDecrypt) (p : Tape) → td .terminated ≡ false → net .«num_faulty» < countShares (td .shares) → (td .ciphertext ≡ 0 → ⊥) → td .«had_input» ≡ true → tryOutput net proposer td p ≡ combine (withEnd td) p
+  unfolding onward onwardAs
+  try-started td p e h z s = rw (try-onward td p e h z, start-redundant (withEnd td) p s)
 
   own-quiet : (td : ThresholdDecrypt) (p : Tape) → Ends Quiet (ownShare net proposer (ends (going none)) td p)
   unfolding ownShare

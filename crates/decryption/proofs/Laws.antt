@@ -15,8 +15,8 @@ use Rattle.steps.specs.declared.reader.Answer.the-variants.{Got, Refused as NoA
 use Rattle.steps.specs.Answers.{Tape, asked, askAbout}
 use Rattle.steps.specs.declared.step.Step.{Step}
 use Rattle.steps.specs.Steps.{Out, out, putEntry, putAll, fault}
-use Rattle.steps.specs.Runs.{Verdict, going, refused, failed, ends, onwardAs, onward, leaves}
-use Rattle.steps.proofs.Runs.{heard-got, heard-none}
+use Rattle.steps.specs.Runs.{going, refused, failed, ends, onwardAs, onward, leaves}
+use Rattle.steps.proofs.Runs.{onward-go, onward-refused, heard-got, heard-none}
 use Rattle.decryption.specs.Outcomes.{checkedVerdict, verdict, leftValid, left, handled}
 use Rattle.decryption.specs.Decrypt.{withCiphertext, withShares, countFrom, setCiphertext, isShareValid, checkShare, removeFrom}
 use Rattle.decryption.specs.declared.ThresholdDecrypt.{ThresholdDecrypt}
@@ -63,10 +63,6 @@ not-nothing Nothing h e = miss (1 ∷ 2 ∷ 3 ∷ []) 0 tt h
 not-nothing (Plaintext n) h e = let z : _≡_ {A = ℕ} 0 1 = cc in omega arith
 not-nothing Refused h e = let z : _≡_ {A = ℕ} 0 1 = cc in omega arith
 not-nothing Decryption h e = let z : _≡_ {A = ℕ} 0 1 = cc in omega arith
-
--- a refused run does not go on
-pub refused-stays : {A : Type 0} (v : Verdict A) → v ≡ refused → (a : A) → v ≡ going a → ⊥
-refused-stays v e a n = let z : _≡_ {A = ℕ} 0 1 = cc in omega arith
 
 -- setting the ciphertext
 module _ (proposer ciphertext : ℕ) (td : ThresholdDecrypt) (p : Tape) where
@@ -122,11 +118,21 @@ module _ (sender : ℕ) (td : ThresholdDecrypt) (p : Tape) where
     check-invalid n o u m = rw (ne-eqb _ _ z, ← v, n, m)
 
 -- checking one sender more
-pub remove-step : (i : ℕ) (td : ThresholdDecrypt) (p : Tape) → i < 16 → removeFrom (16 - i) i td p ≡ onward (checkShare i td p) (λ _ td q. removeFrom (16 - (i + 1)) (i + 1) td q)
-unfolding removeFrom
-remove-step i td p h =
-    let e : 16 - i ≡ suc (16 - (i + 1)) = omega arith in
-    rw e
+module _ (i : ℕ) (td : ThresholdDecrypt) (p : Tape) (h : i < 16) where
+  remove-step : removeFrom (16 - i) i td p ≡ onward (checkShare i td p) (λ _ td q. removeFrom (16 - (i + 1)) (i + 1) td q)
+  unfolding removeFrom
+  remove-step =
+      let e : 16 - i ≡ suc (16 - (i + 1)) = omega arith in
+      rw e
+
+  -- from what the check left: the rest goes on there, or all of it is refused
+  module _ (o u : Out) (s : ThresholdDecrypt) (q : Tape) where
+    pub remove-goes : leaves u (ends (going tt) s q) ≡ leaves o (checkShare i td p) → leaves u (removeFrom (16 - (i + 1)) (i + 1) s q) ≡ leaves o (removeFrom (16 - i) i td p)
+    unfolding putAll
+    remove-goes e = rw remove-step (onward-go _ o _ (λ _ td q. removeFrom (16 - (i + 1)) (i + 1) td q) e tt refl)
+
+    pub remove-refused : leaves u (ends refused s q) ≡ leaves o (checkShare i td p) → leaves u (ends refused s q) ≡ leaves o (removeFrom (16 - i) i td p)
+    remove-refused e = rw remove-step (onward-refused _ o _ _ e refl)
 
 pub remove-done : (i : ℕ) (td : ThresholdDecrypt) (p : Tape) → 16 ≤ i → removeFrom (16 - i) i td p ≡ ends (going tt) td p
 unfolding removeFrom

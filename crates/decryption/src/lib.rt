@@ -3,13 +3,14 @@
 // Shares and the ciphertext are handles; 0 stands for none. `answers`, `place`, `step` and `words` are the call's answers with the
 // place in them, and its step with the table that it is written to.
 ghost use mathlib.Core.Path.{_≡_};
-ghost use Prim.Native.Nat.{_<_};
+ghost use Prim.Native.Nat.{ℕ, _<_};
+ghost use mathlib.Core.List.{List};
 ghost use Rattle.steps.specs.Network.{Network};
 ghost use Rattle.steps.specs.Answers.{tapeAt};
 ghost use Rattle.steps.specs.Steps.{out};
 ghost use Rattle.steps.specs.Runs.{leaves};
 ghost use Rattle.decryption.specs.Outcomes.{leftSet, leftValid, leftChecked, left, handled};
-ghost use Rattle.decryption.specs.Decrypt.{new, isSender, countShares, setCiphertext, isShareValid, checkShare, removeInvalidShares, startDecryption, tryOutput, storeShare, handleMessage};
+ghost use Rattle.decryption.specs.Decrypt.{new, isSender, countShares, setCiphertext, isShareValid, removeInvalidShares, combine, startDecryption, tryOutput, storeShare, handleMessage};
 use steps::network_info::NetworkInfo;
 use steps::numbers::CIPHERTEXT_VERIFIES;
 use steps::numbers::CONTRIBUTION_DECRYPTED;
@@ -171,55 +172,6 @@ impl ThresholdDecrypt {
         }
     }
 
-    // Checks the share of one sender, and removes it if it is invalid.
-    fn check_share(
-        self,
-        sender: usize,
-        answers: &[u64],
-        place: &mut usize,
-        step: Step,
-        words: &mut [u64],
-    ) -> Removed
-        requires { ⌜ sender < 16 ⌝ }
-        ensures { λ r. ⌜ leftChecked r (tapeAt (now (answers .entry)) (now (place .exit))) (now (words .exit))
-            ≡ leaves (out step (now (words .entry))) (checkShare sender self (tapeAt (now (answers .entry)) (now (place .entry)))) ⌝ }
-    {
-        let mut td = self;
-        if td.shares[sender] == 0 {
-            return Removed {
-                td,
-                outcome: Checked::Done,
-                step,
-            };
-        }
-        match td.is_share_valid(sender, answers, place) {
-            Validity::Valid => Removed {
-                td,
-                outcome: Checked::Done,
-                step,
-            },
-            Validity::Invalid => {
-                td.shares[sender] = 0;
-                let faulted = step.fault(
-                    words,
-                    UNVERIFIED_DECRYPTION_SHARE_SENDER,
-                    sender as u64,
-                    0,
-                );
-                Removed {
-                    td,
-                    outcome: Checked::Done,
-                    step: faulted,
-                }
-            }
-            Validity::Refused => Removed {
-                td,
-                outcome: Checked::Refused,
-                step,
-            },
-        }
-    }
-
     // Removes all shares that are invalid, by rising sender, with a fault for each.
     fn remove_invalid_shares(
         self,
@@ -235,13 +187,23 @@ impl ThresholdDecrypt {
         let mut s = step;
         let mut i: usize = 0;
         while i < 16 {
-            let checked = td.check_share(i, answers, place, s, words);
-            let outcome = checked.outcome;
-            let Checked::Done = outcome else {
-                return checked;
-            };
-            td = checked.td;
-            s = checked.step;
+            let sender = i;
+            if td.shares[sender] != 0 {
+                match td.is_share_valid(sender, answers, place) {
+                    Validity::Valid => {}
+                    Validity::Invalid => {
+                        td.shares[sender] = 0;
+                        s = s.fault(words, UNVERIFIED_DECRYPTION_SHARE_SENDER, sender as u64, 0);
+                    }
+                    Validity::Refused => {
+                        return Removed {
+                            td,
+                            outcome: Checked::Refused,
+                            step: s,
+                        };
+                    }
+                }
+            }
             i += 1;
         }
         Removed {
@@ -330,6 +292,10 @@ impl ThresholdDecrypt {
         }
         let mut td = self;
         td.terminated = true;
+        // Starting again would change nothing.
+        if td.had_input {
+            return td.combine(answers, place, step);
+        }
         let started = td.start_decryption(net, proposer, answers, place, step, words);
         let outcome = started.outcome;
         let Outcome::Nothing = outcome else {
@@ -337,14 +303,22 @@ impl ThresholdDecrypt {
         };
         let last = started.td;
         let done = started.step;
+        last.combine(answers, place, done)
+    }
+
+    // Asks for the plaintext. It writes no words, so that the equation is one for any table.
+    fn combine(self, answers: &[u64], place: &mut usize, step: Step) -> Handled
+        ensures { λ r. ⌜ ((w : List ℕ) → left r (tapeAt (now (answers .entry)) (now (place .exit))) w
+            ≡ leaves (out step w) (combine self (tapeAt (now (answers .entry)) (now (place .entry))))) ⌝ }
+    {
         match steps::reader::ask(answers, place, CONTRIBUTION_DECRYPTED) {
             Answer::Got { a, b } => {
                 if a == 0 {
-                    return last.handled(Outcome::Decryption, done);
+                    return self.handled(Outcome::Decryption, step);
                 }
-                last.handled(Outcome::Plaintext(b), done)
+                self.handled(Outcome::Plaintext(b), step)
             }
-            Answer::Refused => last.handled(Outcome::Refused, done),
+            Answer::Refused => self.handled(Outcome::Refused, step),
         }
     }
 

@@ -9,6 +9,7 @@ use crate::lent::Lent;
 use crate::oracle::{Call, MAX_EPOCH};
 use crate::random::Random;
 use crate::ranges::ranges;
+use crate::table::step_lists;
 
 fn count(tally: &mut Tally, operation: &'static str, reply: u64, number: u64) {
     *tally.entry((Against::Document, operation, reply)).or_default() += number;
@@ -121,8 +122,8 @@ fn skip_and_queries(words: &[u64], random: &mut Random, tally: &mut Tally) -> Re
     Ok(())
 }
 
-/// A state in range, whatever its past: never 3 or 4, a refusal changes nothing, and what a call
-/// leaves is in range.
+/// A state in range, whatever its past: never 3 or 4, a refusal changes nothing, what a call leaves
+/// is in range, and faults are counted up to the limit.
 fn in_range(
     words: &[u64],
     call: &Call,
@@ -143,7 +144,15 @@ fn in_range(
     let mut step = Lent::rubbish(4 * 200, random);
     let reply = engine::call(call, state.words(), scratch.words(), answers, step.words());
     match reply {
-        0 | 20..=25 => within(state.words())?,
+        0 => {
+            let faults = words[12] + step_lists(step.words()).faults.len() as u64;
+            same("fault count", state.words()[12], faults.min((1 << 32) - 1))?;
+            within(state.words())?
+        }
+        20..=25 => {
+            same("fault count after a failure", state.words()[12], words[12])?;
+            within(state.words())?
+        }
         5..=11 => {
             state.check("state after a refusal", &[])?;
             step.check("step after a refusal", &[])?;

@@ -14,6 +14,7 @@ use crate::engine;
 use crate::oracle::{self, Call, Ended};
 use crate::random::{hash, Random};
 use crate::state;
+use crate::table::step_lists;
 use crate::world::{Asked, World};
 
 /// What all hosts of a group must have in common: batches by epoch, and whose contributions did
@@ -98,23 +99,9 @@ fn call_engine(state: &mut [u64], call: &Call, world: &mut World) -> Result<Step
     let mut scratch = vec![7; state.len()];
     let mut step = vec![7; 4 * 1553];
     match engine::call(call, state, &mut scratch, &table, &mut step) {
-        0 => Ok(lists(&step)),
+        0 => Ok(step_lists(&step)),
         reply => Err(format!("the engine replied {}", reply)),
     }
-}
-
-/// The lists of a step table.
-fn lists(step: &[u64]) -> StepLists {
-    let chain = |first: u64| {
-        let mut list = Vec::new();
-        let mut at = first as usize;
-        while at != 0 {
-            list.push([step[4 * at + 1], step[4 * at + 2], step[4 * at + 3]]);
-            at = step[4 * at] as usize;
-        }
-        list
-    };
-    StepLists { messages: chain(step[0]), faults: chain(step[1]), outputs: chain(step[2]) }
 }
 
 /// A message on its way.

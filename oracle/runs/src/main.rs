@@ -120,10 +120,10 @@ fn start(args: &[&str]) -> Result<(), Box<dyn Error>> {
 }
 
 /// Makes the runs of a class, or of all classes: these are dealt out in turn, two by two. Hands on
-/// each run with its class's place in the list and its index.
+/// each run with its class's place in the list and name, and its index.
 fn each_run(
     [class, seed, runs, calls]: [&str; 4],
-    mut each: impl FnMut(usize, u64, Vec<record::Record>) -> Result<(), Box<dyn Error>>,
+    mut each: impl FnMut(usize, &str, u64, Vec<record::Record>) -> Result<(), Box<dyn Error>>,
 ) -> Result<Vec<&'static str>, Box<dyn Error>> {
     let found = generate::CLASSES.iter().find(|x| x.name == class);
     let chosen: Vec<&generate::Class> = match (class, found) {
@@ -137,7 +137,7 @@ fn each_run(
         let place = index / 2 / chosen.len() as u64 * 2 + index % 2;
         let records = generate::run(chosen[which], seed, place, calls)
             .map_err(|trouble| format!("run {}: {}", index, trouble))?;
-        each(which, index, records)?;
+        each(which, chosen[which].name, index, records)?;
     }
     Ok(chosen.iter().map(|x| x.name).collect())
 }
@@ -145,7 +145,7 @@ fn each_run(
 fn generate(what: [&str; 4], form: &str) -> Result<(), Box<dyn Error>> {
     let mut counts = vec![count::Counts::new(); generate::CLASSES.len()];
     let mut out = io::stdout();
-    let names = each_run(what, |which, _, records| {
+    let names = each_run(what, |which, _, _, records| {
         match form {
             "binary" => out.write_all(&record::bytes(&records))?,
             "text" => out.write_all(record::text(&records)?.as_bytes())?,
@@ -171,10 +171,10 @@ fn compare(what: [&str; 4]) -> Result<(), Box<dyn Error>> {
     let mut tally = compare::Tally::new();
     let mut different = 0;
     let seed = what[1].parse()?;
-    each_run(what, |which, index, records| {
+    each_run(what, |_, name, index, records| {
         if let Err((i, text)) = compare::run(&records, &[seed, index], &mut tally) {
             different += 1;
-            println!("class {} run {} record {}: {}", which, index, i, text);
+            println!("run {} ({}), record {}: {}", index, name, i, text);
             if different == 1 {
                 println!("{}", record::calls(&records[..=i]).join("\n"));
             }

@@ -74,3 +74,18 @@ pub fn step_words(step: &StepLists, epoch: u64) -> Vec<u64> {
     }
     words
 }
+
+/// The lists that stand in the words of a step.
+#[cfg(feature = "engine")]
+pub fn step_lists(words: &[u64]) -> StepLists {
+    let chain = |first: u64| {
+        let mut list = Vec::new();
+        let mut at = first as usize;
+        while at != 0 {
+            list.push([words[4 * at + 1], words[4 * at + 2], words[4 * at + 3]]);
+            at = words[4 * at] as usize;
+        }
+        list
+    };
+    StepLists { messages: chain(words[0]), faults: chain(words[1]), outputs: chain(words[2]) }
+}

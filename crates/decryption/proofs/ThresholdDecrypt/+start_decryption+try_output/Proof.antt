@@ -6,7 +6,7 @@ use mathlib.Core.Path.{sym, ap, _∙_}
 use Rattle.steps.specs.Runs.{leaves}
 use Rattle.decryption.specs.Outcomes.{checkedVerdict, verdict}
 use Rattle.decryption.proofs.Laws.{not-done, not-nothing, unset, hands}
-use Rattle.decryption.proofs.Cycle.{start-redundant, start-none, start-refused, start-goes, own-below, own-observer, own-refused, own-sends, started-falls, ended-falls, try-ended, try-few, try-none, try-stops, try-goes, combine-refused, combine-failed, combine-plain}
+use Rattle.decryption.proofs.Cycle.{start-redundant, start-none, start-refused, start-goes, own-below, own-observer, own-refused, own-sends, started-falls, ended-falls, try-ended, try-few, try-none, try-started, try-stops, try-goes}
 use Prim.Native.Nat.{ℕ, _<_}
 use borrow.Fn.Kinds.{In}
 use borrow.Fn.PlainCycle.{Measures, is, falls, and}
@@ -16,6 +16,7 @@ use Rattle.decryption.proofs.ThresholdDecrypt.+start_decryption+try_out
 use Rattle.decryption.proofs.ThresholdDecrypt.try_output.Reads as try-output
 use Rattle.decryption.proofs.ThresholdDecrypt.try_output.Kinds as try-output-kinds
 use Rattle.decryption.proofs.ThresholdDecrypt.+start_decryption+try_output.Lts-try_output as try-output-lts
+use Rattle.decryption.proofs.ThresholdDecrypt.combine.Reads as combine-reads
 use Rattle.decryption.proofs.ThresholdDecrypt.handled.Reads as handled-reads
 use Rattle.decryption.proofs.ThresholdDecrypt.remove_invalid_shares.Reads as remove-invalid-shares-reads
 use Rattle.decryption.proofs.count.Reads as count-reads
@@ -59,23 +60,23 @@ try-output-below t =
 abbrev start-decryption-claims : ℕ → start-decryption-lts.Claims
 start-decryption-claims t = (handled-reads.Asked, handled-reads.Learnt, remove-invalid-shares-reads.Asked, remove-invalid-shares-reads.Learnt, is-validator-reads.Asked, is-validator-reads.Learnt, try-output-below t, try-output.Post, ask-reads.Asked, ask-reads.Learnt, message-reads.Asked, message-reads.Learnt)
 
--- src/lib.rt:268:13
+-- src/lib.rt:242:13
 start-decryption-handled-requires : (t : ℕ) → start-decryption-lts.Need-handled-requires (start-decryption-claims t) (start-decryption-at t) start-decryption.Post
 start-decryption-handled-requires t c κs = search needs
 
--- src/lib.rt:268:13
+-- src/lib.rt:242:13
 start-decryption-returns : (t : ℕ) → start-decryption-lts.Need-returns (start-decryption-claims t) (start-decryption-at t) start-decryption.Post
 start-decryption-returns t c = hands (c .handled .ensures) ∙ ap (leaves _) (sym (start-redundant _ _ _ _ (c .before .if1 .taken)))
 
--- src/lib.rt:271:13
+-- src/lib.rt:245:13
 start-decryption-handled-requires-2 : (t : ℕ) → start-decryption-lts.Need-handled-requires-2 (start-decryption-claims t) (start-decryption-at t) start-decryption.Post
 start-decryption-handled-requires-2 t c κs = search needs
 
--- src/lib.rt:271:13
+-- src/lib.rt:245:13
 start-decryption-returns-2 : (t : ℕ) → start-decryption-lts.Need-returns-2 (start-decryption-claims t) (start-decryption-at t) start-decryption.Post
 start-decryption-returns-2 t c = hands (c .handled2 .ensures) ∙ ap (leaves _) (sym (start-none _ _ _ _ (c .before .before .before .if1 .left) (c .before .if2 .taken)))
 
--- src/lib.rt:273:13
+-- src/lib.rt:247:13
 start-decryption-remove-invalid-shares-requires :
     (t : ℕ) → start-decryption-lts.Need-remove-invalid-shares-requires (start-decryption-claims t) (start-decryption-at t) start-decryption.Post
 start-decryption-remove-invalid-shares-requires t c κs = search needs
@@ -83,180 +84,152 @@ start-decryption-remove-invalid-shares-requires t c κs = search needs
 start-decryption-enum-told : (t : ℕ) → start-decryption-lts.Need-enum-told (start-decryption-claims t) (start-decryption-at t) start-decryption.Post
 start-decryption-enum-told t c = search needs
 
--- src/lib.rt:278:20
+-- src/lib.rt:252:20
 start-decryption-enum-told-2 : (t : ℕ) → start-decryption-lts.Need-enum-told-2 (start-decryption-claims t) (start-decryption-at t) start-decryption.Post
 start-decryption-enum-told-2 t c = search needs
 
--- src/lib.rt:278:13
+-- src/lib.rt:252:13
 start-decryption-handled-requires-3 : (t : ℕ) → start-decryption-lts.Need-handled-requires-3 (start-decryption-claims t) (start-decryption-at t) start-decryption.Post
 start-decryption-handled-requires-3 t c κs = search needs
 
--- src/lib.rt:278:13
+-- src/lib.rt:252:13
 start-decryption-same-length : (t : ℕ) → start-decryption-lts.Need-same-length (start-decryption-claims t) (start-decryption-at t) start-decryption.Post
 start-decryption-same-length t c = search needs
 
--- src/lib.rt:278:13
+-- src/lib.rt:252:13
 start-decryption-returns-3 : (t : ℕ) → start-decryption-lts.Need-returns-3 (start-decryption-claims t) (start-decryption-at t) start-decryption.Post
 start-decryption-returns-3 t c = hands (c .handled3 .ensures) ∙ start-refused _ _ _ _ _ _ (c .before .before .before .before .before .before .before .before .before .before .before .before .if1 .left) (c .before .before .before .before .before .before .before .before .before .before .if2 .left) (c .before .before .before .before .before .before .before .remove-invalid-shares .ensures) (not-done (c .before .before .before .before .before .before .before .remove-invalid-shares .result .outcome) (c .before .before .match .keys2))
 
--- src/lib.rt:281:14
+-- src/lib.rt:255:14
 start-decryption-is-validator-requires : (t : ℕ) → start-decryption-lts.Need-is-validator-requires (start-decryption-claims t) (start-decryption-at t) start-decryption.Post
 start-decryption-is-validator-requires t c κs = search needs
 
--- src/lib.rt:282:13
+-- src/lib.rt:256:13
 start-decryption-try-output-requires : (t : ℕ) → start-decryption-lts.Need-try-output-requires (start-decryption-claims t) (start-decryption-at t) start-decryption.Post
 start-decryption-try-output-requires t c κs = (started-falls _ _ _ _ t (c .before .before .before .before .before .before .before .before .before .before .before .before .before .before .before .before .before .before .before .pre .0) (c .before .before .before .before .before .before .before .before .before .before .before .before .before .before .before .before .if1 .left) (c .before .before .before .before .before .before .before .before .before .before .before .remove-invalid-shares .ensures), c .before .before .before .before .before .before .before .before .before .before .before .before .before .before .before .before .before .before .before .pre .1)
 
--- src/lib.rt:282:13
+-- src/lib.rt:256:13
 start-decryption-same-length-2 : (t : ℕ) → start-decryption-lts.Need-same-length-2 (start-decryption-claims t) (start-decryption-at t) start-decryption.Post
 start-decryption-same-length-2 t c = search needs
 
--- src/lib.rt:282:13
+-- src/lib.rt:256:13
 start-decryption-returns-4 : (t : ℕ) → start-decryption-lts.Need-returns-4 (start-decryption-claims t) (start-decryption-at t) start-decryption.Post
 start-decryption-returns-4 t c = c .before .before .try-output .ensures ∙ ap (leaves _) (sym (own-observer _ _ _ _ _ (rw (← c .before .before .before .before .before .before .before .is-validator .ensures) (not-true _ (c .before .before .before .before .before .if3 .taken))))) ∙ (start-goes _ _ _ _ _ _ (c .before .before .before .before .before .before .before .before .before .before .before .before .before .before .before .before .before .before .before .if1 .left) (c .before .before .before .before .before .before .before .before .before .before .before .before .before .before .before .before .before .if2 .left) (c .before .before .before .before .before .before .before .before .before .before .before .before .before .before .remove-invalid-shares .ensures) (ap checkedVerdict (c .before .before .before .before .before .before .before .before .enum-told .given .1)))
 
--- src/lib.rt:284:15
+-- src/lib.rt:258:15
 start-decryption-ask-requires : (t : ℕ) → start-decryption-lts.Need-ask-requires (start-decryption-claims t) (start-decryption-at t) start-decryption.Post
 start-decryption-ask-requires t c κs = search needs
 
--- src/lib.rt:285:33
+-- src/lib.rt:259:33
 start-decryption-enum-known-b : (t : ℕ) → start-decryption-lts.Need-enum-known-b (start-decryption-claims t) (start-decryption-at t) start-decryption.Post
 start-decryption-enum-known-b t c = search needs
 
--- src/lib.rt:286:21
+-- src/lib.rt:260:21
 start-decryption-message-requires : (t : ℕ) → start-decryption-lts.Need-message-requires (start-decryption-claims t) (start-decryption-at t) start-decryption.Post
 start-decryption-message-requires t c κs = search needs
 
--- src/lib.rt:288:17
+-- src/lib.rt:262:17
 start-decryption-mul-td : (t : ℕ) → start-decryption-lts.Need-mul-td (start-decryption-claims t) (start-decryption-at t) start-decryption.Post
 start-decryption-mul-td t c = omega (arith, own-below (c .before .before .before .before .before .before .before .before .before .before .before .before .before .before .before .before .before .before .before .before .before .before .before .before .before .before .args .net) (c .before .before .before .before .before .before .before .before .before .before .before .before .before .before .before .before .before .before .before .before .before .before .before .before .before .before .pre .1) (rw (← c .before .before .before .before .before .before .before .before .before .before .before .is-validator .ensures) (not-false _ (c .before .before .before .before .before .before .before .before .before .if3 .left))))
 
--- src/lib.rt:288:17
+-- src/lib.rt:262:17
 start-decryption-element-write-td : (t : ℕ) → start-decryption-lts.Need-element-write-td (start-decryption-claims t) (start-decryption-at t) start-decryption.Post
 start-decryption-element-write-td t c = own-below (c .before .before .before .before .before .before .before .before .before .before .before .before .before .before .before .before .before .before .before .before .before .before .before .before .before .before .args .net) (c .before .before .before .before .before .before .before .before .before .before .before .before .before .before .before .before .before .before .before .before .before .before .before .before .before .before .pre .1) (rw (← c .before .before .before .before .before .before .before .before .before .before .before .is-validator .ensures) (not-false _ (c .before .before .before .before .before .before .before .before .before .if3 .left)))
 
--- src/lib.rt:289:17
+-- src/lib.rt:263:17
 start-decryption-try-output-requires-2 : (t : ℕ) → start-decryption-lts.Need-try-output-requires-2 (start-decryption-claims t) (start-decryption-at t) start-decryption.Post
 start-decryption-try-output-requires-2 t c κs = (started-falls _ _ _ _ t (c .before .before .before .before .before .before .before .before .before .before .before .before .before .before .before .before .before .before .before .before .before .before .before .before .before .before .before .before .pre .0) (c .before .before .before .before .before .before .before .before .before .before .before .before .before .before .before .before .before .before .before .before .before .before .before .before .before .if1 .left) (c .before .before .before .before .before .before .before .before .before .before .before .before .before .before .before .before .before .before .before .before .remove-invalid-shares .ensures), c .before .before .before .before .before .before .before .before .before .before .before .before .before .before .before .before .before .before .before .before .before .before .before .before .before .before .before .before .pre .1)
 
--- src/lib.rt:291:32
+-- src/lib.rt:265:32
 start-decryption-enum-told-3 : (t : ℕ) → start-decryption-lts.Need-enum-told-3 (start-decryption-claims t) (start-decryption-at t) start-decryption.Post
 start-decryption-enum-told-3 t c = search needs
 
--- src/lib.rt:291:32
+-- src/lib.rt:265:32
 start-decryption-handled-requires-4 : (t : ℕ) → start-decryption-lts.Need-handled-requires-4 (start-decryption-claims t) (start-decryption-at t) start-decryption.Post
 start-decryption-handled-requires-4 t c κs = search needs
 
--- src/lib.rt:254:5
+-- src/lib.rt:228:5
 start-decryption-same-length-3 : (t : ℕ) → start-decryption-lts.Need-same-length-3 (start-decryption-claims t) (start-decryption-at t) start-decryption.Post
 start-decryption-same-length-3 t c = c .before .before .try-output2 .kept .1 .1 .1 .1 .1 .1 .0 ∙ c .before .before .before .before .before .before .before .message .kept .1 .0 ∙ c .before .before .before .before .before .before .before .before .before .before .before .before .before .before .before .before .before .before .before .before .before .before .before .remove-invalid-shares .kept .1 .1 .1 .1 .0
 
--- src/lib.rt:254:5
+-- src/lib.rt:228:5
 start-decryption-returns-5 : (t : ℕ) → start-decryption-lts.Need-returns-5 (start-decryption-claims t) (start-decryption-at t) start-decryption.Post
 start-decryption-returns-5 t c = c .before .before .try-output2 .ensures ∙ own-sends _ _ _ _ _ _ _ (c .before .before .before .before .before .before .before .before .before .before .before .before .ask .ensures) (rw (← c .before .before .before .before .before .before .before .before .before .before .before .before .before .before .before .before .is-validator .ensures) (not-false _ (c .before .before .before .before .before .before .before .before .before .before .before .before .before .before .if3 .left))) _ _ (c .before .before .before .before .before .before .before .before .before .before .b .given .1) _ _ (c .before .before .before .before .before .before .before .message .ensures) ∙ (start-goes _ _ _ _ _ _ (c .before .before .before .before .before .before .before .before .before .before .before .before .before .before .before .before .before .before .before .before .before .before .before .before .before .before .before .before .if1 .left) (c .before .before .before .before .before .before .before .before .before .before .before .before .before .before .before .before .before .before .before .before .before .before .before .before .before .before .if2 .left) (c .before .before .before .before .before .before .before .before .before .before .before .before .before .before .before .before .before .before .before .before .before .before .before .remove-invalid-shares .ensures) (ap checkedVerdict (c .before .before .before .before .before .before .before .before .before .before .before .before .before .before .before .before .before .enum-told .given .1)))
 
--- src/lib.rt:254:5
+-- src/lib.rt:228:5
 start-decryption-same-length-4 : (t : ℕ) → start-decryption-lts.Need-same-length-4 (start-decryption-claims t) (start-decryption-at t) start-decryption.Post
 start-decryption-same-length-4 t c = search needs
 
--- src/lib.rt:254:5
+-- src/lib.rt:228:5
 start-decryption-returns-6 : (t : ℕ) → start-decryption-lts.Need-returns-6 (start-decryption-claims t) (start-decryption-at t) start-decryption.Post
 start-decryption-returns-6 t c = hands (c .handled4 .ensures) ∙ ap (leaves _) (sym (own-refused _ _ _ _ _ _ _ (c .before .before .before .ask .ensures) (rw (← c .before .before .before .before .before .before .before .is-validator .ensures) (not-false _ (c .before .before .before .before .before .if3 .left))) (c .before .enum-told3 .given .1))) ∙ (start-goes _ _ _ _ _ _ (c .before .before .before .before .before .before .before .before .before .before .before .before .before .before .before .before .before .before .before .if1 .left) (c .before .before .before .before .before .before .before .before .before .before .before .before .before .before .before .before .before .if2 .left) (c .before .before .before .before .before .before .before .before .before .before .before .before .before .before .remove-invalid-shares .ensures) (ap checkedVerdict (c .before .before .before .before .before .before .before .before .enum-told .given .1)))
 
 -- what each call in try-output asks and tells, below the measure t
 abbrev try-output-claims : ℕ → try-output-lts.Claims
-try-output-claims t = (handled-reads.Asked, handled-reads.Learnt, count-reads.Asked, count-reads.Learnt, start-decryption-below t, start-decryption.Post, ask-reads.Asked, ask-reads.Learnt)
+try-output-claims t = (handled-reads.Asked, handled-reads.Learnt, count-reads.Asked, count-reads.Learnt, combine-reads.Asked, combine-reads.Learnt, start-decryption-below t, start-decryption.Post)
 
--- src/lib.rt:310:13
+-- src/lib.rt:284:13
 try-output-handled-requires : (t : ℕ) → try-output-lts.Need-handled-requires (try-output-claims t) (try-output-at t) try-output.Post
 try-output-handled-requires t c κs = search needs
 
--- src/lib.rt:310:13
+-- src/lib.rt:284:13
 try-output-returns : (t : ℕ) → try-output-lts.Need-returns (try-output-claims t) (try-output-at t) try-output.Post
 try-output-returns t c = hands (c .handled .ensures) ∙ ap (leaves _) (sym (try-ended _ _ _ _ (c .before .if1 .taken)))
 
--- src/lib.rt:313:12
+-- src/lib.rt:287:12
 try-output-count-requires : (t : ℕ) → try-output-lts.Need-count-requires (try-output-claims t) (try-output-at t) try-output.Post
 try-output-count-requires t c κs = search needs
 
--- src/lib.rt:314:13
+-- src/lib.rt:288:13
 try-output-handled-requires-2 : (t : ℕ) → try-output-lts.Need-handled-requires-2 (try-output-claims t) (try-output-at t) try-output.Post
 try-output-handled-requires-2 t c κs = search needs
 
--- src/lib.rt:314:13
+-- src/lib.rt:288:13
 try-output-returns-2 : (t : ℕ) → try-output-lts.Need-returns-2 (try-output-claims t) (try-output-at t) try-output.Post
 try-output-returns-2 t c = hands (c .handled2 .ensures) ∙ ap (leaves _) (sym (try-few _ _ _ _ (c .before .before .before .before .before .if1 .left) (rw (← c .before .before .before .count .ensures) (c .before .if2 .taken))))
 
--- src/lib.rt:317:13
+-- src/lib.rt:291:13
 try-output-handled-requires-3 : (t : ℕ) → try-output-lts.Need-handled-requires-3 (try-output-claims t) (try-output-at t) try-output.Post
 try-output-handled-requires-3 t c κs = search needs
 
--- src/lib.rt:317:13
+-- src/lib.rt:291:13
 try-output-returns-3 : (t : ℕ) → try-output-lts.Need-returns-3 (try-output-claims t) (try-output-at t) try-output.Post
 try-output-returns-3 t c = hands (c .handled3 .ensures) ∙ ap (leaves _) (sym (try-none _ _ _ _ (c .before .before .before .before .before .before .before .if1 .left) (rw (← c .before .before .before .before .before .count .ensures) (c .before .before .before .if2 .left)) (c .before .if3 .taken)))
 
--- src/lib.rt:321:13
+-- src/lib.rt:297:13
+try-output-combine-requires : (t : ℕ) → try-output-lts.Need-combine-requires (try-output-claims t) (try-output-at t) try-output.Post
+try-output-combine-requires t c κs = search needs
+
+-- src/lib.rt:297:13
+try-output-returns-4 : (t : ℕ) → try-output-lts.Need-returns-4 (try-output-claims t) (try-output-at t) try-output.Post
+try-output-returns-4 t c = c .combine .ensures _ ∙ ap (leaves _) (sym (try-started _ _ _ _ (c .before .before .before .before .before .before .before .before .before .if1 .left) (rw (← c .before .before .before .before .before .before .before .count .ensures) (c .before .before .before .before .before .if2 .left)) (c .before .before .before .if3 .left) (c .before .before .if4 .taken)))
+
+-- src/lib.rt:299:13
 try-output-start-decryption-requires : (t : ℕ) → try-output-lts.Need-start-decryption-requires (try-output-claims t) (try-output-at t) try-output.Post
-try-output-start-decryption-requires t c κs = (ended-falls (c .before .before .before .before .before .before .before .before .before .before .before .args .self) t (c .before .before .before .before .before .before .before .before .before .before .before .pre .0) (c .before .before .before .before .before .before .before .before .if1 .left), search needs)
+try-output-start-decryption-requires t c κs = (ended-falls (c .before .before .before .before .before .before .before .before .before .before .before .before .args .self) t (c .before .before .before .before .before .before .before .before .before .before .before .before .pre .0) (c .before .before .before .before .before .before .before .before .before .if1 .left), search needs)
 
 try-output-enum-told : (t : ℕ) → try-output-lts.Need-enum-told (try-output-claims t) (try-output-at t) try-output.Post
 try-output-enum-told t c = search needs
 
--- src/lib.rt:324:13
+-- src/lib.rt:302:13
 try-output-same-length : (t : ℕ) → try-output-lts.Need-same-length (try-output-claims t) (try-output-at t) try-output.Post
 try-output-same-length t c = search needs
 
--- src/lib.rt:324:13
-try-output-returns-4 : (t : ℕ) → try-output-lts.Need-returns-4 (try-output-claims t) (try-output-at t) try-output.Post
-try-output-returns-4 t c = try-stops _ _ _ _ _ _ (c .before .before .before .before .before .before .before .before .before .before .before .before .if1 .left) (rw (← c .before .before .before .before .before .before .before .before .before .before .count .ensures) (c .before .before .before .before .before .before .before .before .if2 .left)) (c .before .before .before .before .before .before .if3 .left) (c .before .before .before .start-decryption .ensures) (not-nothing (c .before .before .before .start-decryption .result .outcome) (c .match .keys2))
+-- src/lib.rt:302:13
+try-output-returns-5 : (t : ℕ) → try-output-lts.Need-returns-5 (try-output-claims t) (try-output-at t) try-output.Post
+try-output-returns-5 t c = try-stops _ _ _ _ _ _ (c .before .before .before .before .before .before .before .before .before .before .before .before .before .if1 .left) (rw (← c .before .before .before .before .before .before .before .before .before .before .before .count .ensures) (c .before .before .before .before .before .before .before .before .before .if2 .left)) (c .before .before .before .before .before .before .before .if3 .left) (c .before .before .before .start-decryption .ensures) (not-nothing (c .before .before .before .start-decryption .result .outcome) (c .match .keys2))
 
--- src/lib.rt:328:15
-try-output-ask-requires : (t : ℕ) → try-output-lts.Need-ask-requires (try-output-claims t) (try-output-at t) try-output.Post
-try-output-ask-requires t c κs = search needs
+-- src/lib.rt:306:9
+try-output-combine-requires-2 : (t : ℕ) → try-output-lts.Need-combine-requires-2 (try-output-claims t) (try-output-at t) try-output.Post
+try-output-combine-requires-2 t c κs = search needs
 
--- src/lib.rt:329:27
-try-output-enum-known-a : (t : ℕ) → try-output-lts.Need-enum-known-a (try-output-claims t) (try-output-at t) try-output.Post
-try-output-enum-known-a t c = search needs
-
--- src/lib.rt:331:21
-try-output-handled-requires-4 : (t : ℕ) → try-output-lts.Need-handled-requires-4 (try-output-claims t) (try-output-at t) try-output.Post
-try-output-handled-requires-4 t c κs = search needs
-
--- src/lib.rt:331:21
+-- src/lib.rt:270:5
 try-output-same-length-2 : (t : ℕ) → try-output-lts.Need-same-length-2 (try-output-claims t) (try-output-at t) try-output.Post
 try-output-same-length-2 t c = search needs
 
--- src/lib.rt:331:21
-try-output-returns-5 : (t : ℕ) → try-output-lts.Need-returns-5 (try-output-claims t) (try-output-at t) try-output.Post
-try-output-returns-5 t c = hands (c .handled4 .ensures) ∙ ap (leaves _) (sym (combine-failed _ _ _ _ (c .before .before .before .before .before .ask .ensures) _ _ (c .before .before .before .a .given .1) (c .before .if4 .taken))) ∙ try-goes _ _ _ _ _ _ (c .before .before .before .before .before .before .before .before .before .before .before .before .before .before .before .before .before .before .before .before .before .before .if1 .left) (rw (← c .before .before .before .before .before .before .before .before .before .before .before .before .before .before .before .before .before .before .before .before .count .ensures) (c .before .before .before .before .before .before .before .before .before .before .before .before .before .before .before .before .before .before .if2 .left)) (c .before .before .before .before .before .before .before .before .before .before .before .before .before .before .before .before .if3 .left) (c .before .before .before .before .before .before .before .before .before .before .before .before .before .start-decryption .ensures) (ap verdict (c .before .before .before .before .before .before .before .before .before .enum-told .given .1))
-
--- src/lib.rt:333:17
-try-output-handled-requires-5 : (t : ℕ) → try-output-lts.Need-handled-requires-5 (try-output-claims t) (try-output-at t) try-output.Post
-try-output-handled-requires-5 t c κs = search needs
-
--- src/lib.rt:335:45
-try-output-enum-told-2 : (t : ℕ) → try-output-lts.Need-enum-told-2 (try-output-claims t) (try-output-at t) try-output.Post
-try-output-enum-told-2 t c = search needs
-
--- src/lib.rt:335:32
-try-output-handled-requires-6 : (t : ℕ) → try-output-lts.Need-handled-requires-6 (try-output-claims t) (try-output-at t) try-output.Post
-try-output-handled-requires-6 t c κs = search needs
-
--- src/lib.rt:296:5
-try-output-same-length-3 : (t : ℕ) → try-output-lts.Need-same-length-3 (try-output-claims t) (try-output-at t) try-output.Post
-try-output-same-length-3 t c = search needs
-
--- src/lib.rt:296:5
+-- src/lib.rt:270:5
 try-output-returns-6 : (t : ℕ) → try-output-lts.Need-returns-6 (try-output-claims t) (try-output-at t) try-output.Post
-try-output-returns-6 t c = hands (c .handled5 .ensures) ∙ ap (leaves _) (sym (combine-plain _ _ _ _ (c .before .before .before .before .before .ask .ensures) _ _ (c .before .before .before .a .given .1) (c .before .if4 .left))) ∙ try-goes _ _ _ _ _ _ (c .before .before .before .before .before .before .before .before .before .before .before .before .before .before .before .before .before .before .before .before .before .before .if1 .left) (rw (← c .before .before .before .before .before .before .before .before .before .before .before .before .before .before .before .before .before .before .before .before .count .ensures) (c .before .before .before .before .before .before .before .before .before .before .before .before .before .before .before .before .before .before .if2 .left)) (c .before .before .before .before .before .before .before .before .before .before .before .before .before .before .before .before .if3 .left) (c .before .before .before .before .before .before .before .before .before .before .before .before .before .start-decryption .ensures) (ap verdict (c .before .before .before .before .before .before .before .before .before .enum-told .given .1))
-
--- src/lib.rt:296:5
-try-output-same-length-4 : (t : ℕ) → try-output-lts.Need-same-length-4 (try-output-claims t) (try-output-at t) try-output.Post
-try-output-same-length-4 t c = search needs
-
--- src/lib.rt:296:5
-try-output-returns-7 : (t : ℕ) → try-output-lts.Need-returns-7 (try-output-claims t) (try-output-at t) try-output.Post
-try-output-returns-7 t c = hands (c .handled6 .ensures) ∙ ap (leaves _) (sym (combine-refused _ _ _ _ (c .before .before .before .ask .ensures) (c .before .enum-told2 .given .1))) ∙ try-goes _ _ _ _ _ _ (c .before .before .before .before .before .before .before .before .before .before .before .before .before .before .before .before .before .before .before .before .if1 .left) (rw (← c .before .before .before .before .before .before .before .before .before .before .before .before .before .before .before .before .before .before .count .ensures) (c .before .before .before .before .before .before .before .before .before .before .before .before .before .before .before .before .if2 .left)) (c .before .before .before .before .before .before .before .before .before .before .before .before .before .before .if3 .left) (c .before .before .before .before .before .before .before .before .before .before .before .start-decryption .ensures) (ap verdict (c .before .before .before .before .before .before .before .enum-told .given .1))
+try-output-returns-6 t c = c .combine2 .ensures _ ∙ try-goes _ _ _ _ _ _ (c .before .before .before .before .before .before .before .before .before .before .before .before .before .before .before .before .before .before .if1 .left) (rw (← c .before .before .before .before .before .before .before .before .before .before .before .before .before .before .before .before .count .ensures) (c .before .before .before .before .before .before .before .before .before .before .before .before .before .before .if2 .left)) (c .before .before .before .before .before .before .before .before .before .before .before .before .if3 .left) (c .before .before .before .before .before .before .before .before .start-decryption .ensures) (ap verdict (c .before .before .before .before .enum-told .given .1))
 
 pub +start-decryption+try-output-spec : {M : Type 1} → statement M
 +start-decryption+try-output-spec =
@@ -299,19 +272,12 @@ pub +start-decryption+try-output-spec : {M : Type 1} → statement M
     (try-output-returns-2 t)
     (try-output-handled-requires-3 t)
     (try-output-returns-3 t)
+    (try-output-combine-requires t)
+    (try-output-returns-4 t)
     (try-output-start-decryption-requires t)
     (try-output-enum-told t)
     (try-output-same-length t)
-    (try-output-returns-4 t)
-    (try-output-ask-requires t)
-    (try-output-enum-known-a t)
-    (try-output-handled-requires-4 t)
-    (try-output-same-length-2 t)
     (try-output-returns-5 t)
-    (try-output-handled-requires-5 t)
-    (try-output-enum-told-2 t)
-    (try-output-handled-requires-6 t)
-    (try-output-same-length-3 t)
+    (try-output-combine-requires-2 t)
+    (try-output-same-length-2 t)
     (try-output-returns-6 t)
-    (try-output-same-length-4 t)
-    (try-output-returns-7 t)
