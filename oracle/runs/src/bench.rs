@@ -171,14 +171,16 @@ impl Run {
             if let Action::Call { call, table, .. } = &self.actions[i] {
                 let stranger = Call::Message([self.numbers.n, 0, 1, 0, 0]);
                 let current = words.state[10];
-                touch(table);
+                words.settle(&stranger, table);
                 let start = now();
                 let skip = engine::skip(current, &mut words.state);
                 let end = now();
                 assert_eq!(skip, 0);
-                touch(table);
+                words.settle(&stranger, table);
                 let zeroing = words.refused(&stranger, &[0; 4], 11);
+                words.settle(&stranger, table);
                 let checks = words.refused(&stranger, table, 11);
+                words.settle(&stranger, table);
                 let first = words.refused(call, table, 10);
                 self.add(i, What::Range, start, end);
                 self.add(i, What::Zeroing, zeroing.0, zeroing.1);
@@ -236,8 +238,13 @@ impl Words {
         (start, end)
     }
 
-    fn refused(&mut self, call: &Call, table: &[u64], wanted: u64) -> (u64, u64) {
+    /// Leaves the caches as the call before leaves them: its scratch was just zeroed.
+    fn settle(&mut self, stranger: &Call, table: &[u64]) {
+        self.refused(stranger, &[0; 4], 11);
         touch(table);
+    }
+
+    fn refused(&mut self, call: &Call, table: &[u64], wanted: u64) -> (u64, u64) {
         let step = if wanted == 10 { &mut self.step[..0] } else { &mut self.step[..] };
         let start = now();
         let reply = engine::call(call, &mut self.state, &mut self.scratch, table, step);
