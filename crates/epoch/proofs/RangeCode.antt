@@ -9,7 +9,7 @@ use lib.ListN.{length, getD, take, drop, length-drop}
 use lib.Seq.{length-take-le, getD-take, getD-drop}
 use lib.Dec.{eqb, leb, ltb}
 use lib.Bits.{bitOr, or-lt, or-add-and, and-le-l, and-le-r}
-use borrow.Author.Tests.{le-leb, lt-ltb, le-ltb, ltb-true, ltb-false, ne-eqb}
+use borrow.Author.Tests.{le-leb, lt-ltb, le-ltb, ltb-true, ltb-false, eq-eqb, eqb-true, ne-eqb}
 use Rattle.steps.proofs.Laws.{and-true as parts}
 use Rattle.steps.proofs.Ranges.{and-both}
 use Rattle.subset.specs.Words.{recordLength, recordAt, epochLength, tagCompleteTrue, statusOf, statusComplete, decidedAt, acceptedOf, countOf}
@@ -179,6 +179,20 @@ records-both n (suc m) p w few =
     rw (record-both n w p few, records-both n m (p + 1) w few, z, all-split maybeHandle (recordLength n) (m * recordLength n) (recordAt n p 0) w, y)
     (apart (handles n w p) (smallInRange n w p) (allFrom maybeHandle (m * recordLength n) (recordAt n p 0 + recordLength n) w) (smallsInRange n m (p + 1) w))
 
+-- where all words are 0 so are the small ones
+smalls-zero : (n m p : ℕ) (w : List ℕ) → p + m ≤ n → ((k : ℕ) → k < n * recordLength n → getD w (16 + k) 0 ≡ 0) → smallsInRange n m p w ≡ true
+unfolding smallsInRange smallInRange
+smalls-zero n zero p w l h = refl
+smalls-zero n (suc m) p w l h =
+    rw (zero-at 0 (omega arith), zero-at 2 (omega arith), zero-at 5 (omega arith), zero-at 6 (omega arith), zero-at 7 (omega arith), lt-ltb 0 n (omega arith))
+    (smalls-zero n m (p + 1) w (omega arith) h)
+  where
+    zero-at : (j : ℕ) → j < 8 → getD w (recordAt n p j) 0 ≡ 0
+    zero-at j b =
+        let z : recordAt n p j ≡ 16 + (p * recordLength n + j) = omega arith in
+        let s : suc p ≤ n = omega arith in
+        rw z (h (p * recordLength n + j) (omega (arith, mul-le-mul-right (recordLength n) s, suc-mul p (recordLength n))))
+
 -- one more, or none left
 module _ (n : ℕ) (w : List ℕ) (ok : Bool) (p : ℕ) where
   pub smalls-turn : p < n → (ok && smallInRange n w p) && smallsInRange n (n - (p + 1)) (p + 1) w ≡ ok && smallsInRange n (n - p) p w
@@ -209,3 +223,13 @@ module _ (strategy : SubsetHandlingStrategy) (n : ℕ) (w : List ℕ) where
       let j : ltb joined (2 ^ 32) ≡ allFrom maybeHandle (n * recordLength n) 16 w = rw e at (joins-part joined (length w - 16) 16 w (omega (arith, h .long)) s 32) in
       rw (row-zero 12 4 w reserved (joins-part reserved 12 4 w (omega (arith, h .long)) r), j, records-both n n 0 w (h .few), z)
       (and-assoc own (allFrom maybeHandle (n * recordLength n) 16 w) (smallsInRange n n 0 w))
+
+  -- and where the words of the records are all 0, their small ones need no test
+  pub epoch-vacant : (reserved joined : ℕ) → EpochWords n w → Joins reserved (length (part 12 4 w)) 0 (part 12 4 w)
+      → Joins joined (length (part (length w - 16) 16 w)) 0 (part (length w - 16) 16 w) → joined ≡ 0
+      → four && eqb reserved 0 && ltb joined (2 ^ 32) ≡ epochInRange strategy n w
+  epoch-vacant reserved joined h r s e =
+      let all : allFrom (λ x. eqb x 0) (length w - 16) 16 w ≡ true =
+      sym (row-zero (length w - 16) 16 w joined (joins-part joined (length w - 16) 16 w (omega (arith, h .long)) s)) ∙ eq-eqb joined 0 e in
+      let z : smallsInRange n n 0 w ≡ true = smalls-zero n n 0 w (omega arith) (λ k l. eqb-true _ _ (all-at (λ x. eqb x 0) (length w - 16) 16 w all k (omega (arith, h .long)))) in
+      rw (z, and-true (four && eqb reserved 0 && ltb joined (2 ^ 32))) at (epoch-code reserved joined h r s)

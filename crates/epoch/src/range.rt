@@ -76,6 +76,10 @@ pub fn epoch_in_range(epoch: &[u64], strategy: SubsetHandlingStrategy, n: usize)
         & (epoch[COUNT_AT] <= most)
         & (reserved == 0)
         & (joined < HANDLE_LIMIT + 1);
+    // where nothing came yet every word is 0, and so in range
+    if joined == 0 {
+        return ok;
+    }
     let mut p: usize = 0;
     while p < n {
         ok = ok & small_in_range(epoch, n, p);

@@ -5,7 +5,7 @@ use mathlib.Core.Bool.{_&&_}
 use native.Mathlib.Omega.{arith}
 use Rattle.steps.proofs.BitLaws.{shifted}
 use Rattle.epoch.proofs.BatchCode.{all-left}
-use Rattle.epoch.proofs.RangeCode.{smallsInRange, epoch-code, smalls-turn, smalls-over}
+use Rattle.epoch.proofs.RangeCode.{smallsInRange, epoch-code, epoch-vacant, smalls-turn, smalls-over}
 use Rattle.epoch.proofs.range.epoch_in_range.Statement.{statement}
 use Rattle.epoch.proofs.range.epoch_in_range.Tie as tie
 use Rattle.epoch.proofs.range.epoch_in_range.Reads as reads
@@ -80,32 +80,38 @@ shared-slice-read-ok-4 c = omega (arith, c .before .before .before .before .befo
 add-ok : tie.Need-add-ok Inv-loop μ-loop
 add-ok c = omega (arith, c .before .before .before .before .before .before .before .before .before .before .pre .few, c .before .before .before .before .before .before .before .before .before .before .pre .long)
 
--- src/range.rt:80:5
-loop-holds : tie.Need-loop-holds Inv-loop μ-loop
-loop-holds c = (omega arith, rw (all-left (c .before .before .before .before .before .before .before .before .before .before .args .n)))
-
--- src/range.rt:81:19
-small-in-range-requires : tie.Need-small-in-range-requires Inv-loop μ-loop
-small-in-range-requires c κs = (c .before .before .before .before .before .before .before .before .before .before .before .before .pre, c .loop-test .taken)
-
--- src/range.rt:82:9
-add-p : tie.Need-add-p Inv-loop μ-loop
-add-p c = omega (arith, c .before .before .before .before .before .before .before .before .before .before .before .before .before .pre .few, c .before .before .before .before .before .before .before .before .before .before .before .before .before .pre .long)
-
--- src/range.rt:80:5
-loop-less : tie.Need-loop-less Inv-loop μ-loop
-loop-less c = omega (arith, c .before .before .before .before .before .before .before .before .before .before .before .before .before .pre .few, c .before .before .before .before .before .before .before .before .before .before .before .before .before .pre .long)
-
--- src/range.rt:80:5
-loop-again : tie.Need-loop-again Inv-loop μ-loop
-loop-again c = (omega arith, rw (c .small-in-range .ensures) (smalls-turn (c .before .before .before .before .before .before .before .before .before .before .before .before .before .args .n) (c .before .before .before .before .before .before .before .before .before .before .before .before .before .args .epoch .now) (c .before .before .loop .ok) (c .before .before .loop .p) (c .before .loop-test .taken)) ∙ c .before .before .loop .inv .1)
-
--- src/range.rt:65:1
+-- src/range.rt:81:9
 returns : tie.Need-returns Inv-loop μ-loop
 returns c =
-    smalls-over (c .before .before .before .before .before .before .before .before .before .before .before .before .args .n) (c .before .before .before .before .before .before .before .before .before .before .before .before .args .epoch .now) (c .before .loop .ok) (c .before .loop .p) (c .loop-test .left) ∙ c .before .loop .inv .1
-    ∙ rw (c .before .before .before .before .before .before .before .before .before .before .most-kept .ensures, shifted (c .before .before .before .before .before .before .before .before .before .before .before .before .args .n) (omega (arith, c .before .before .before .before .before .before .before .before .before .before .before .before .pre .few)))
-    (epoch-code (c .before .before .before .before .before .before .before .before .before .before .before .before .args .strategy) (c .before .before .before .before .before .before .before .before .before .before .before .before .args .n) (c .before .before .before .before .before .before .before .before .before .before .before .before .args .epoch .now) (c .before .before .before .before .before .before .before .before .join .result) (c .before .before .before .before .before .before .join2 .result) (c .before .before .before .before .before .before .before .before .before .before .before .before .pre) (c .before .before .before .before .before .before .before .before .join .ensures) (c .before .before .before .before .before .before .join2 .ensures))
+    rw (c .before .before .before .before .before .before .before .before .before .most-kept .ensures, shifted (c .before .before .before .before .before .before .before .before .before .before .before .args .n) (omega (arith, c .before .before .before .before .before .before .before .before .before .before .before .pre .few)))
+    (epoch-vacant (c .before .before .before .before .before .before .before .before .before .before .before .args .strategy) (c .before .before .before .before .before .before .before .before .before .before .before .args .n) (c .before .before .before .before .before .before .before .before .before .before .before .args .epoch .now) (c .before .before .before .before .before .before .before .join .result) (c .before .before .before .before .before .join2 .result) (c .before .before .before .before .before .before .before .before .before .before .before .pre) (c .before .before .before .before .before .before .before .join .ensures) (c .before .before .before .before .before .join2 .ensures) (c .if1 .taken))
+
+-- src/range.rt:84:5
+loop-holds : tie.Need-loop-holds Inv-loop μ-loop
+loop-holds c = (omega arith, rw (all-left (c .before .before .before .before .before .before .before .before .before .before .before .args .n)))
+
+-- src/range.rt:85:19
+small-in-range-requires : tie.Need-small-in-range-requires Inv-loop μ-loop
+small-in-range-requires c κs = (c .before .before .before .before .before .before .before .before .before .before .before .before .before .pre, c .loop-test .taken)
+
+-- src/range.rt:86:9
+add-p : tie.Need-add-p Inv-loop μ-loop
+add-p c = omega (arith, c .before .before .before .before .before .before .before .before .before .before .before .before .before .before .pre .few, c .before .before .before .before .before .before .before .before .before .before .before .before .before .before .pre .long)
+
+-- src/range.rt:84:5
+loop-less : tie.Need-loop-less Inv-loop μ-loop
+loop-less c = omega (arith, c .before .before .before .before .before .before .before .before .before .before .before .before .before .before .pre .few, c .before .before .before .before .before .before .before .before .before .before .before .before .before .before .pre .long)
+
+-- src/range.rt:84:5
+loop-again : tie.Need-loop-again Inv-loop μ-loop
+loop-again c = (omega arith, rw (c .small-in-range .ensures) (smalls-turn (c .before .before .before .before .before .before .before .before .before .before .before .before .before .before .args .n) (c .before .before .before .before .before .before .before .before .before .before .before .before .before .before .args .epoch .now) (c .before .before .loop .ok) (c .before .before .loop .p) (c .before .loop-test .taken)) ∙ c .before .before .loop .inv .1)
+
+-- src/range.rt:65:1
+returns-2 : tie.Need-returns-2 Inv-loop μ-loop
+returns-2 c =
+    smalls-over (c .before .before .before .before .before .before .before .before .before .before .before .before .before .args .n) (c .before .before .before .before .before .before .before .before .before .before .before .before .before .args .epoch .now) (c .before .loop .ok) (c .before .loop .p) (c .loop-test .left) ∙ c .before .loop .inv .1
+    ∙ rw (c .before .before .before .before .before .before .before .before .before .before .before .most-kept .ensures, shifted (c .before .before .before .before .before .before .before .before .before .before .before .before .before .args .n) (omega (arith, c .before .before .before .before .before .before .before .before .before .before .before .before .before .pre .few)))
+    (epoch-code (c .before .before .before .before .before .before .before .before .before .before .before .before .before .args .strategy) (c .before .before .before .before .before .before .before .before .before .before .before .before .before .args .n) (c .before .before .before .before .before .before .before .before .before .before .before .before .before .args .epoch .now) (c .before .before .before .before .before .before .before .before .before .join .result) (c .before .before .before .before .before .before .before .join2 .result) (c .before .before .before .before .before .before .before .before .before .before .before .before .before .pre) (c .before .before .before .before .before .before .before .before .before .join .ensures) (c .before .before .before .before .before .before .before .join2 .ensures))
 
 pub epoch-in-range-spec : {M : Type 1} → statement M
 epoch-in-range-spec =
@@ -128,9 +134,10 @@ epoch-in-range-spec =
     shared-slice-read-ok-3
     shared-slice-read-ok-4
     add-ok
+    returns
     loop-holds
     small-in-range-requires
     add-p
     loop-less
     loop-again
-    returns)
+    returns-2)
