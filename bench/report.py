@@ -190,8 +190,9 @@ def main(folder):
     machine = [x.strip() for x in (folder / "machine").read_text().splitlines()]
     empty = accepted([c for size in GOALS for c in sized[size]])
     share = sum(c.records == 1 for c in empty) / len(empty)
+    busy = "The machine was busy, so times are provisional (ratios less so). " if float(machine[0].split()[2]) > 0.5 else ""
     text = "\n\n".join([
-        f"Taken on: {machine[1]}, {machine[0]} when it began; {machine[2]}; the archive's SHA-256 begins with {machine[3]}. "
+        f"Taken on: {machine[1]}, {machine[0]} when it began; {machine[2]}; the archive's SHA-256 begins with {machine[3]}. {busy}"
         "A figure is the mean over the calls of each call's median; in brackets the same of the quartiles.",
         "### Goals\n\n" + goals(sized, lto),
         "### By kind of call\n\n" + kinds(sized) + "\n\nA line of queries is all of them: three of the original's, four of the engine's, each with its range check.",

@@ -26,12 +26,14 @@ lto=$here/../oracle/target/lto/oracle
 for n in 1 2 4 7 10 13 16; do
     for f in 0 3 7 15; do
         "$speed" sized $n $f 11 $((2 + 88 / n)) $((60 + 40 * n)) > "$out/n$n-f$f.bin"
-        "$speed" bench "$repeats" "$out/n$n-f$f.bin" > "$out/sized-n$n-f$f.tsv"
+        times=$repeats
+        case $n-$f in 4-3 | 7-3 | 16-15) times=$((3 * repeats)) ;; esac
+        "$speed" bench $times "$out/n$n-f$f.bin" > "$out/sized-n$n-f$f.tsv"
         echo "N $n F $f measured"
     done
 done
 for size in n4-f3 n7-f3 n16-f15; do
-    "$lto" bench "$repeats" "$out/$size.bin" > "$out/lto-$size.tsv"
+    "$lto" bench $((3 * repeats)) "$out/$size.bin" > "$out/lto-$size.tsv"
 done
 "$speed" bench "$repeats" "$here"/../oracle/recorded/*.bin > "$out/recorded.tsv"
 echo "recorded runs measured"
