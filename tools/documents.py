@@ -79,7 +79,8 @@ def faults(mark):
         first, *others = split(mark)
         words = first.split("::")
         text = SOURCES.get(words[0], "\n".join(CODE.values()))
-        wanted = [word for word in words[1:] if word not in {file.stem for file in CODE}] + others
+        modules = {file.stem for file in CODE if words[0] not in SOURCES or CRATES / words[0] in file.parents}
+        wanted = [word for word in words[1:] if word not in modules] + others
         return [f"{word} is not in the code of {words[0]}" for word in wanted if not re.search(rf"\b{word}\b", text)]
     if re.match(r"(crates|docs|oracle|tools|include|examples|fuzz|bench|\.ci)/", mark) and re.fullmatch(r"[\w./*-]+", mark):
         return [] if any(ROOT.glob(mark.rstrip("/"))) or "NAME" in mark or "CRATE" in mark else [f"no file {mark}"]
