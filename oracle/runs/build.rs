@@ -8,8 +8,11 @@ fn main() {
         return;
     }
     let library = std::env::var("ENGINE").expect("ENGINE: the path of libengine.a");
-    let folder = Path::new(&library).parent().expect("a file").display();
+    let path = Path::new(&library);
+    let folder = path.parent().expect("a file").display();
+    let stem = path.file_stem().and_then(|stem| stem.to_str()).unwrap_or("");
+    let name = stem.strip_prefix("lib").expect("ENGINE: a file lib….a");
     println!("cargo:rerun-if-changed={}", library);
     println!("cargo:rustc-link-search=native={}", folder);
-    println!("cargo:rustc-link-lib=static=engine");
+    println!("cargo:rustc-link-lib=static={}", name);
 }
