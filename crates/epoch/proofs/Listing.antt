@@ -16,9 +16,9 @@ use Rattle.steps.specs.Network.{isValidator, numCorrect}
 use Rattle.steps.specs.Answers.{Tape}
 use Rattle.steps.specs.Steps.{Out}
 use Rattle.steps.specs.Runs.{Verdict, going, refused, failed, Run, inside, onwardAs, onward, Left, leaves}
-use Rattle.subset.specs.declared.ProposalState.{ProposalState}
+use Rattle.proposal.specs.declared.ProposalState.{ProposalState}
 use Rattle.subset.specs.Words.{isDecided, decidedAt, countAt, countOf, proposalAt, valueAt, arrivalAt, contributor, loadProposal, storeProposal, addContribution}
-use Rattle.subset.specs.Proposal.{asksAgreement, asksBroadcast}
+use Rattle.proposal.specs.Proposal.{asksAgreement, asksBroadcast}
 use Rattle.subset.specs.Subset.{allComplete, countAccepted, contributed, atProposal, broadcastAt, agreementAt, voteFrom, votes, tryOutput, propose, handleMessage}
 use Rattle.subset.proofs.Frames.{differ, store-word}
 use Rattle.epochwords.specs.Shape.{Listed}

@@ -27,9 +27,9 @@ use Rattle.steps.proofs.Times.{past-more}
 use Rattle.decryption.specs.declared.ThresholdDecrypt.{ThresholdDecrypt}
 use Rattle.decryption.specs.Decrypt.{isSender, withInput, withEnd, countShares, isSome, setCiphertext, isShareValid, checkShare, removeFrom, ownShare, startWith, combine, tryWith, startDecryption, tryOutput as tryCombine, storeShare, handleMessage as handleShare}
 use Rattle.decryption.proofs.Cycle.{Does}
-use Rattle.subset.specs.declared.ProposalState.{ProposalState}
+use Rattle.proposal.specs.declared.ProposalState.{ProposalState}
 use Rattle.subset.specs.Words.{decidedAt, isDecided, acceptedAt, statusAt, countAt, recordAt, proposalAt, valueAt, arrivalAt, loadProposal, storeProposal, addContribution}
-use Rattle.subset.specs.Proposal.{asksAgreement, asksBroadcast, afterBroadcast, instanceAnswer, answerAgreement, voteTrue, afterValue, answerBroadcast}
+use Rattle.proposal.specs.Proposal.{asksAgreement, asksBroadcast, afterBroadcast, instanceAnswer, answerAgreement, voteTrue, afterValue, answerBroadcast}
 use Rattle.subset.specs.Subset.{allComplete, countAccepted, contributed, atProposal, broadcastAt, agreementAt, voteFrom, votes, tryOutput, propose as proposeSubset, handleMessage as handleSubset}
 use Rattle.subset.proofs.Frames.{differ, store-word}
 use Rattle.epochwords.specs.declared.SubsetHandlingStrategy.{SubsetHandlingStrategy}

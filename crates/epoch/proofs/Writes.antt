@@ -17,9 +17,9 @@ use Rattle.steps.specs.Answers.{Tape, Asked, ask, askAbout}
 use Rattle.steps.specs.Runs.{Verdict, going, refused, failed, Run, inside, onwardAs, onward, heardAs, heard}
 use Rattle.decryption.specs.declared.ThresholdDecrypt.{ThresholdDecrypt}
 use Rattle.decryption.specs.Decrypt.{new}
-use Rattle.subset.specs.declared.ProposalState.{ProposalState}
+use Rattle.proposal.specs.declared.ProposalState.{ProposalState}
 use Rattle.subset.specs.Words.{isDecided, statusAt, decidedAt, acceptedAt, countAt, proposalAt, valueAt, arrivalAt, tagOf, valueOf, loadProposal, storeProposal, addContribution, dropFrom}
-use Rattle.subset.specs.Proposal.{asksAgreement, asksBroadcast}
+use Rattle.proposal.specs.Proposal.{asksAgreement, asksBroadcast}
 use Rattle.subset.specs.Subset.{allComplete, countAccepted, contributed, atProposal, broadcastAt, agreementAt, voteFrom, votes, tryOutput, propose as proposeSubset, handleMessage as handleSubset}
 use Rattle.epochwords.specs.declared.SubsetHandlingStrategy.{SubsetHandlingStrategy}
 use Rattle.epoch.specs.declared.MessageContent.{MessageContent}

@@ -14,9 +14,9 @@ use Rattle.steps.specs.Network.{isValidator, numCorrect}
 use Rattle.steps.specs.Answers.{Tape}
 use Rattle.steps.specs.Runs.{Run}
 use Rattle.steps.proofs.Bounded.{Bounded, bounded-ends, bounded-wider, bounded-cond, bounded-about, bounded-onward, bounded-inside, bounded-parts}
-use Rattle.subset.specs.declared.ProposalState.{ProposalState}
+use Rattle.proposal.specs.declared.ProposalState.{ProposalState}
 use Rattle.subset.specs.Words.{isDecided, loadProposal, storeProposal}
-use Rattle.subset.specs.Proposal.{asksAgreement, asksBroadcast, afterBroadcast, instanceAnswer, answerAgreement, voteTrue, afterValue, answerBroadcast}
+use Rattle.proposal.specs.Proposal.{asksAgreement, asksBroadcast, afterBroadcast, instanceAnswer, answerAgreement, voteTrue, afterValue, answerBroadcast}
 use Rattle.subset.specs.Subset.{allComplete, countAccepted, atProposal, broadcastAt, agreementAt, voteFrom, votes, tryOutput, propose, handleMessage}
 
 -- A PROPOSAL

@@ -1,7 +1,6 @@
 -- What is proved of the definitions, for this crate's proofs and for those above it.
 pub mod Counts
 pub mod Frames
-pub mod Proposals
 pub mod Held
 pub mod Taken
 pub mod Calls
@@ -11,6 +10,5 @@ pub mod Ranges
 pub mod Votes
 pub mod Bounded
 pub mod Bits
-pub mod Moves
 pub mod Stores
 pub mod Rounds

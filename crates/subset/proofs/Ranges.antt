@@ -18,10 +18,10 @@ use Rattle.steps.specs.Network.{isValidator, numCorrect}
 use Rattle.steps.specs.Answers.{Tape}
 use Rattle.steps.specs.Runs.{Run}
 use Rattle.steps.proofs.Ranges.{AllSmall, Kept, Any, SmallOption, SmallOutput, kept-going, kept-failed, kept-cond, kept-about, kept-onward, kept-inside, kept-parts, Below, below-set}
-use Rattle.subset.specs.declared.ProposalState.{ProposalState}
-use Rattle.subset.specs.declared.ProposalState.the-variants.{Ongoing, HasValue, Accepted, Complete}
+use Rattle.proposal.specs.declared.ProposalState.{ProposalState}
+use Rattle.proposal.specs.declared.ProposalState.the-variants.{Ongoing, HasValue, Accepted, Complete}
 use Rattle.subset.specs.Words.{recordLength, epochLength, decidedAt, countAt, isDecided, recordAt, valueAt, arrivalAt, proposalOf, tagOf, valueOf, loadProposal, storeProposal, addContribution, dropFrom}
-use Rattle.subset.specs.Proposal.{asksAgreement, asksBroadcast, Moved, afterAgreement, afterBroadcast, movedTo, instanceAnswer, answerAgreement, voteTrue, afterValue, answerBroadcast}
+use Rattle.proposal.specs.Proposal.{asksAgreement, asksBroadcast, Moved, afterAgreement, afterBroadcast, movedTo, instanceAnswer, answerAgreement, voteTrue, afterValue, answerBroadcast}
 use Rattle.subset.specs.Subset.{allComplete, countAccepted, contributed, atProposal, broadcastAt, agreementAt, voteFrom, votes, tryOutput, propose, handleMessage}
 
 -- THE LIMIT OF A PLACE, which its word is below. The epoch's own words: status, decided, accepted, count; the rest are 0
