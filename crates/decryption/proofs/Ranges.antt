@@ -39,9 +39,9 @@ end-ok td h = record { ciphertext = h .ciphertext; shares = h .shares }
 set-ok : (td : ThresholdDecrypt) (c : ℕ) → InstanceOk td → c < 0x1_0000_0000 → InstanceOk (withCiphertext td c)
 set-ok td c h l = record { ciphertext = l; shares = h .shares }
 
-rules : Combines small (keeping InstanceOk)
+pub rules : (n : ℕ) → Combines (small n) (keeping n InstanceOk)
 unfolding SmallOption
-rules = record {
+rules n = record {
   checks = record {
     reads = λ k e. within-below 9 11 16 k (omega arith) e;
     faults = λ k a e. tt;
@@ -56,22 +56,22 @@ rules = record {
 
 pub set-safe : (proposer ciphertext : ℕ) → ciphertext < 0x1_0000_0000 → Safe Any (setCiphertext proposer ciphertext)
 unfolding SmallOption
-set-safe proposer ciphertext l td p h o = kept-any (set-keeps small (keeping InstanceOk) proposer ciphertext refl tt (λ td h u. (set-ok td ciphertext h l, tt)) 0 td p h o tt)
+set-safe proposer ciphertext l td p h o = kept-any (set-keeps (small 0) (keeping 0 InstanceOk) proposer ciphertext refl tt (λ td h u. (set-ok td ciphertext h l, tt)) 0 td p h o tt)
 
 module _ (net : NetworkInfo) (proposer : ℕ) where
   pub start-safe : Safe SmallOption (startDecryption net proposer)
   unfolding SmallOption
-  start-safe td p h o = start-keeps small (keeping InstanceOk) net proposer rules 0 td p h o tt
+  start-safe td p h o = start-keeps (small 0) (keeping 0 InstanceOk) net proposer (rules 0) 0 td p h o tt
 
   pub try-safe : Safe SmallOption (tryOutput net proposer)
   unfolding SmallOption
-  try-safe td p h o = try-keeps small (keeping InstanceOk) net proposer rules 0 td p h o tt
+  try-safe td p h o = try-keeps (small 0) (keeping 0 InstanceOk) net proposer (rules 0) 0 td p h o tt
 
   pub store-safe : (sender share : ℕ) → share < 0x1_0000_0000 → Safe SmallOption (storeShare net proposer sender share)
   unfolding SmallOption
-  store-safe sender share l td p h o = store-keeps small (keeping InstanceOk) net proposer rules sender share l 0 td p h o tt
+  store-safe sender share l td p h o = store-keeps (small 0) (keeping 0 InstanceOk) net proposer (rules 0) sender share l 0 td p h o tt
 
   -- a share message
   pub handle-safe : (sender share : ℕ) → share < 0x1_0000_0000 → Safe SmallOption (handleMessage net proposer sender share)
   unfolding SmallOption
-  handle-safe sender share l td p h o = handle-keeps small (keeping InstanceOk) net proposer rules sender share l 0 td p h o tt
+  handle-safe sender share l td p h o = handle-keeps (small 0) (keeping 0 InstanceOk) net proposer (rules 0) sender share l 0 td p h o tt

@@ -22,7 +22,7 @@ use Rattle.steps.specs.Parts.{isPart, messageKind, faultKind, partEntrie
 use Rattle.steps.proofs.Laws.{and-true, on-bounds, link-up, link-end}
 use Rattle.steps.proofs.Parts.{parts-on, parts-off}
 use Rattle.steps.proofs.Ranges.{by-test}
-use Rattle.steps.proofs.Logic.{Hand, hand, anything, Logic}
+use Rattle.steps.proofs.Logic.{Hand, hand, given, anything, Logic}
 
 -- a run from tape p that writes at most one entry for each record it reads, and `more` besides
 pub record Bounded {S A : Type 0} (more : ℕ) (p : Tape) (r : Run S A) : Type 0 where
@@ -164,20 +164,6 @@ module _ {S A : Type 0} (f : A → Hand) where
   unfolding askAbout
   spends-about x n kind who s p k g = spends-for f x x n (λ r. eqb (r .kind) kind && eqb (r .b) who) s p k g
 
-abbrev pub counting : (S : Type 0) → Logic anything S
-counting S = record {
-  Good = λ A f h s p r. Spends f h p r;
-  Step = λ x s y t. Unit {0};
-  steps = λ A f x y n s t p r e g. record { spent = g .spent };
-  goes = λ A f h a s p e l. spends-going f h a s p l;
-  fails = λ A f h n s p e. spends-failed f h n s p;
-  writes = λ A f x n e s p r w g. spends-one f x n e p r g;
-  asks = λ A f x n kind s p k e g. spends-ask f x x n kind s p k (λ a b q. g a b q tt);
-  asksAbout = λ A f x n kind who s p k e g. spends-about f x n kind who s p k g;
-  asksText = λ A f n s p k g. spends-ask f none none n 12 s p k (λ a b q. record { spent = g a b q tt .spent });
-  goesOn = λ A B f g h s p r k b m. spends-onward f g h p r k b m;
-}
-
 -- THE PARTS of an answer: a part is one entry or none
 part-one : (content : Content) (proposer kind a b : ℕ) → length (partEntries content proposer kind a b) ≤ 1
 unfolding partEntries
@@ -206,6 +192,25 @@ module _ (content : Content) (proposer : ℕ) where
 
   pub bounded-parts : {S : Type 0} (s : S) (p : Tape) → Bounded 0 p (readParts content proposer s p)
   bounded-parts s p = record { short = omega (arith, parts-few Missing (p .place) (p .rest)) }
+
+  pub spends-parts : {S : Type 0} (n : ℕ) (s : S) (p : Tape) → Spends (λ o. hand (given o) 0) (hand none n) p (readParts content proposer s p)
+  unfolding left
+  spends-parts n s p = record { spent = omega (arith, parts-few Missing (p .place) (p .rest)) }
+
+abbrev pub counting : (S : Type 0) → Logic anything S
+counting S = record {
+  Good = λ A f h s p r. Spends f h p r;
+  Step = λ x s y t. Unit {0};
+  steps = λ A f x y n s t p r e g. record { spent = g .spent };
+  goes = λ A f h a s p e l. spends-going f h a s p l;
+  fails = λ A f h n s p e. spends-failed f h n s p;
+  writes = λ A f x n e s p r w g. spends-one f x n e p r g;
+  asks = λ A f x n kind s p k e g. spends-ask f x x n kind s p k (λ a b q. g a b q tt);
+  asksAbout = λ A f x n kind who s p k e g. spends-about f x n kind who s p k g;
+  asksText = λ A f n s p k g. spends-ask f none none n 12 s p k (λ a b q. record { spent = g a b q tt .spent });
+  parts = λ content proposer n s p e. spends-parts content proposer n s p;
+  goesOn = λ A B f g h s p r k b m. spends-onward f g h p r k b m;
+}
 
 -- THE CHAIN OF A TABLE. Its indexes rise from above 0, so that it has fewer records than the table
 walk-short : (n : ℕ) (t : List ℕ) (i j : ℕ) → (i ≡ 0) ⊎ (j < i) → j < length t / 4 → length (walk n t i) + suc j ≤ length t / 4

@@ -6,9 +6,13 @@ use mathlib.Core.List.{[], _∷_}
 use mathlib.Core.Bool.{Bool, true, false, cond}
 use mathlib.Core.Option.{Option, none, some}
 use native.Mathlib.Omega.{arith}
+use Rattle.steps.specs.declared.reader.Content.{Content}
+use Rattle.steps.specs.declared.reader.Output.{Output}
+use Rattle.steps.specs.declared.reader.Output.the-variants.{Missing, Value}
 use Rattle.steps.specs.Answers.{Tape, ask, askAbout}
 use Rattle.steps.specs.Steps.{Entry}
 use Rattle.steps.specs.Runs.{going, failed, Run, ends, before, onward, heard}
+use Rattle.steps.specs.Parts.{readParts}
 
 -- WHAT A RUN HAS IN HAND: a handle that it was told and has not stored, and how many entries it may write besides one for each answer to come
 pub record Hand : Type 0 where
@@ -22,16 +26,24 @@ hand x n = record { handle = x; entries = n }
 abbrev pub nothing : {A : Type 0} → A → Hand
 nothing a = hand none 0
 
--- WHAT MAY BE READ, written and failed with, and what is known of a handle that was read
+-- the output of an instance
+abbrev pub given : Output → Option ℕ
+given Missing = none
+given (Value v) = some v
+
+-- WHAT MAY BE READ (answers by their kinds, and whether parts), written and failed with, and what is known of a handle that was read and of the
+-- index of a node
 pub record Terms : Type 1 where
   pub Kind : ℕ → Type 0
+  pub Parts : Type 0
   pub Writes : Entry → Type 0
   pub Number : ℕ → Type 0
   pub Handle : ℕ → Type 0
+  pub Index : ℕ → Type 0
 
 -- a property for which these make no difference
 abbrev pub anything : Terms
-anything = record { Kind = λ k. Unit {0}; Writes = λ e. Unit {0}; Number = λ n. Unit {0}; Handle = λ b. Unit {0} }
+anything = record { Kind = λ k. Unit {0}; Parts = Unit {0}; Writes = λ e. Unit {0}; Number = λ n. Unit {0}; Handle = λ b. Unit {0}; Index = λ i. Unit {0} }
 
 -- THE RULES, for runs of the state S
 pub record Logic (T : Terms) (S : Type 0) : Type 1 where
@@ -51,6 +63,7 @@ pub record Logic (T : Terms) (S : Type 0) : Type 1 where
       → ((a b : ℕ) (q : Tape) → Good A f (hand x (n + 1)) s q (k a b q)) → Good A f (hand x n) s p (heard (askAbout p kind who) s k)
   pub asksText : (A : Type 0) (f : A → Hand) (n : ℕ) (s : S) (p : Tape) (k : ℕ → ℕ → Tape → Run S A)
       → ((a b : ℕ) (q : Tape) → T .Handle b → Good A f (hand (some b) (n + 1)) s q (k a b q)) → Good A f (hand none n) s p (heard (ask p 12) s k)
+  pub parts : (content : Content) (proposer n : ℕ) (s : S) (p : Tape) → T .Parts → Good Output (λ o. hand (given o) 0) (hand none n) s p (readParts content proposer s p)
   -- Rust's `?`
   pub goesOn : (A B : Type 0) (f : A → Hand) (g : B → Hand) (h : Hand) (s : S) (p : Tape) (r : Run S A) (k : A → S → Tape → Run S B)
       → Good A f h s p r → ((a : A) (t : S) (q : Tape) → Good B g (f a) t q (k a t q)) → Good B g h s p (onward r k)

@@ -36,5 +36,6 @@ module _ {S : Type 0} (P : S → Type 0) where
     asks = λ A f x n kind s p k e g h. keeps-heard (ask p kind) s k (λ a b q. g a b q tt h) h;
     asksAbout = λ A f x n kind who s p k e g h. keeps-heard (askAbout p kind who) s k (λ a b q. g a b q h) h;
     asksText = λ A f n s p k g h. keeps-heard (ask p 12) s k (λ a b q. g a b q tt h) h;
+    parts = λ content proposer n s p e h. h;
     goesOn = λ A B f g h s p r k l m i. keeps-onward r k (l i) (λ a t q. m a t q);
   }

@@ -2,6 +2,7 @@
 pub mod After
 pub mod Counts
 pub mod Frames
+pub mod Walk
 pub mod Proposals
 pub mod Held
 pub mod Taken
