@@ -22,9 +22,9 @@ sys.path.insert(0, str(ROOT / "tools"))
 import quick  # noqa: E402
 
 ORACLE = ROOT / "oracle" / "target" / "release" / "oracle"
-LAYERS = {"steps": "", "decryption": "steps", "subset": "steps", "epoch": "decryption steps subset",
-          "state": "decryption epoch steps subset", "work": "decryption epoch state steps subset",
-          "engine": "decryption epoch state steps subset work"}
+LAYERS = {"steps": "", "decryption": "steps", "subset": "steps", "epochwords": "decryption steps subset", "epoch": "decryption epochwords steps subset",
+          "state": "decryption epochwords steps subset", "work": "decryption epoch epochwords state steps subset",
+          "engine": "decryption epoch epochwords state steps subset work"}
 
 JUDGE = """-- What a run of the original was given and what it made of it, and whether the definitions make the same of it.
 use Prim.Native.Nat.{ℕ, zero, suc, _+_, _*_}
@@ -166,7 +166,7 @@ def make_repository(folder):
     (judged / "specs").mkdir()
     (judged / "specs" / "Judge.antt").write_text(JUDGE)
     (judged / "specs" / "Opened.antt").write_text(opened(unfoldable(folder / "crates"), "judged"))
-    lines = [f"{layer}: {below}\n" for layer, below in LAYERS.items()] + ["judged: decryption engine epoch state steps subset work\n"]
+    lines = [f"{layer}: {below}\n" for layer, below in LAYERS.items()] + ["judged: decryption engine epoch epochwords state steps subset work\n"]
     (folder / "crates.txt").write_text("".join(lines))
 
 

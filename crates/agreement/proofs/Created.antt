@@ -15,7 +15,7 @@ use Rattle.steps.proofs.Laws.{and-true}
 use Rattle.steps.proofs.Ranges.{and-both, zeros-at}
 use Rattle.subset.specs.Words.{epochLength, countAt}
 use Rattle.subset.proofs.Ranges.{limit-some}
-use Rattle.epoch.proofs.RangesWords.{all-every}
+use Rattle.epochwords.proofs.RangesWords.{all-every}
 use Rattle.state.specs.Schedule.{scheduleOk, usedFirst, usedSecond}
 use Rattle.state.specs.State.{headerLength, inputAt, vacantAt, epochsAt, stateLength, allHold, headerTests, headerInRange, epochWords, placeOf, stateOk}
 use Rattle.engine.specs.Create.{Numbers, numberTests, numbersOk, createdHeader, created, createReply, createState}

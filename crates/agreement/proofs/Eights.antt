@@ -23,13 +23,13 @@ use Rattle.steps.proofs.Chains.{orElse-none, Good, table-good}
 use Rattle.steps.proofs.Past.{Past, Others, past-same, past-then, past-ask, past-about, past-first}
 use Rattle.steps.proofs.Times.{past-times}
 use Rattle.steps.proofs.Read13.{GivesAs, Gives, gives-map, gives-cond, gives-onward, gives-inside, gives-out}
-use Rattle.subset.proofs.After.{After}
-use Rattle.epoch.specs.declared.SubsetHandlingStrategy.{SubsetHandlingStrategy}
+use Rattle.steps.proofs.After.{After}
+use Rattle.epochwords.specs.declared.SubsetHandlingStrategy.{SubsetHandlingStrategy}
 use Rattle.epoch.specs.declared.MessageContent.{MessageContent}
 use Rattle.subset.specs.Words.{recordLength}
-use Rattle.epoch.specs.Words.{isVacant}
+use Rattle.epochwords.specs.Words.{isVacant}
 use Rattle.epoch.specs.Epoch.{propose as proposeInEpoch, handleMessageContent}
-use Rattle.epoch.specs.Batch.{isRead, outputBatchIn, isReady, readAt, readFrom, outputBatch}
+use Rattle.epochwords.specs.Batch.{isRead, outputBatchIn, isReady, readAt, readFrom, outputBatch}
 use Rattle.epoch.proofs.Holds.{Holds}
 use Rattle.epoch.proofs.Laws.{epoch-laws}
 use Rattle.epoch.proofs.Eights.{eightsOf, Counted, proposed-counted, handled-counted}

@@ -13,8 +13,8 @@ use Rattle.steps.specs.declared.network_info.NetworkInfo.{NetworkInfo}
 use Rattle.steps.specs.Answers.{Rec}
 use Rattle.steps.specs.Taken.{isTrue}
 use Rattle.subset.specs.Words.{statusAt}
-use Rattle.epoch.specs.declared.SubsetHandlingStrategy.{SubsetHandlingStrategy}
-use Rattle.epoch.specs.Words.{isComplete, isAccepted, DecryptionState, missing, ongoing, complete, loadDecryption}
+use Rattle.epochwords.specs.declared.SubsetHandlingStrategy.{SubsetHandlingStrategy}
+use Rattle.epochwords.specs.Words.{isComplete, isAccepted, DecryptionState, missing, ongoing, complete, loadDecryption}
 use Rattle.epoch.proofs.Handled.{TextOk}
 use Rattle.epoch.proofs.Holds.{Going, Done, Holds}
 use Rattle.agreement.specs.History.{Event, decisionTaken, plaintext, Handed, namesOf}

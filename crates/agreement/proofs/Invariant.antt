@@ -12,8 +12,8 @@ use borrow.Author.Tests.{eqb-true, eqb-false, leb-true, leb-false}
 use Rattle.steps.specs.declared.network_info.NetworkInfo.{NetworkInfo}
 use Rattle.steps.proofs.Ranges.{zeros-at}
 use Rattle.subset.specs.Words.{epochLength}
-use Rattle.epoch.specs.declared.SubsetHandlingStrategy.{SubsetHandlingStrategy}
-use Rattle.epoch.specs.Words.{isVacant}
+use Rattle.epochwords.specs.declared.SubsetHandlingStrategy.{SubsetHandlingStrategy}
+use Rattle.epochwords.specs.Words.{isVacant}
 use Rattle.epoch.proofs.Told.{nothing}
 use Rattle.epoch.proofs.Batches.{Alive}
 use Rattle.state.specs.State.{headerLength, epochAt, nodes, ahead, currentEpoch, netOf, strategyOf, encryptedIn, epochWords, withEpoch}

@@ -20,13 +20,13 @@ use Rattle.steps.proofs.Laws.{and-true}
 use Rattle.steps.proofs.Chains.{Good}
 use Rattle.steps.proofs.Read13.{GivesAs, Gives, gives-map, gives-cond, gives-ask, gives-onward, gives-inside, Neither, neither, neither-then, neither-1, thirteens-1, good-tail, outputs-append, faults-append}
 use Rattle.subset.specs.Words.{recordLength, epochLength, statusAt}
-use Rattle.subset.proofs.After.{AfterAs, After}
+use Rattle.steps.proofs.After.{AfterAs, After}
 use Rattle.subset.proofs.Votes.{and-no, and-yes, untold-same, untold-neither, Voted, voted-still, voted-after, voted-before}
-use Rattle.epoch.specs.declared.SubsetHandlingStrategy.{SubsetHandlingStrategy}
+use Rattle.epochwords.specs.declared.SubsetHandlingStrategy.{SubsetHandlingStrategy}
 use Rattle.epoch.specs.declared.MessageContent.{MessageContent}
-use Rattle.epoch.specs.Words.{isVacant, isComplete}
+use Rattle.epochwords.specs.Words.{isVacant, isComplete}
 use Rattle.epoch.specs.Epoch.{newEpoch, propose as proposeInEpoch, handleMessageContent}
-use Rattle.epoch.specs.Batch.{isReady, decryptedFrom, isReadyIn, isRead, outputBatch}
+use Rattle.epochwords.specs.Batch.{isReady, decryptedFrom, isReadyIn, isRead, outputBatch}
 use Rattle.epoch.proofs.Told.{nothing, fivesAmong, Quiet, shareOf, Told, Ready, EpochLaws}
 use Rattle.epoch.proofs.Batches.{Alive, alive-new, alive-propose, alive-message}
 use Rattle.state.specs.State.{nodes, faulty, ahead, currentEpoch, inputAt, netOf, strategyOf, encryptedIn, epochWords, withEpoch}

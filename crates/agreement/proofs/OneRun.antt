@@ -21,7 +21,7 @@ use Rattle.steps.proofs.Chains.{orElse-none, orElse-assoc, Good, table-good}
 use Rattle.steps.proofs.Read13.{gives-out}
 use Rattle.subset.proofs.Taken.{Grown, grown-or}
 use Rattle.subset.proofs.Votes.{Voted}
-use Rattle.epoch.specs.declared.SubsetHandlingStrategy.{SubsetHandlingStrategy}
+use Rattle.epochwords.specs.declared.SubsetHandlingStrategy.{SubsetHandlingStrategy}
 use Rattle.steps.specs.declared.reader.Content.the-variants.{Broadcast, Agreement}
 use Rattle.epoch.specs.declared.MessageContent.the-variants.{Subset, DecryptionShare}
 use Rattle.epoch.proofs.Told.{fivesAmong, shareOf, EpochLaws}

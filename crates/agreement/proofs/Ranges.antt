@@ -20,8 +20,8 @@ use Rattle.subset.proofs.Ranges.{EpochOk, SafeEpoch}
 use Rattle.epoch.specs.declared.MessageContent.{MessageContent}
 use Rattle.steps.specs.declared.reader.Content.the-variants.{Broadcast, Agreement}
 use Rattle.epoch.specs.declared.MessageContent.the-variants.{Subset, DecryptionShare}
-use Rattle.epoch.specs.Words.{isVacant, mostKept}
-use Rattle.epoch.specs.Batch.{isReady, outputBatch}
+use Rattle.epochwords.specs.Words.{isVacant, mostKept}
+use Rattle.epochwords.specs.Batch.{isReady, outputBatch}
 use Rattle.epoch.proofs.Lists.{new-epoch-none, propose-keeps, content-keeps}
 use Rattle.epoch.proofs.Ranges.{ContentOk, new-epoch-ok, batch-safe, propose-safe, content-safe}
 use Rattle.state.specs.State.{nodes, ahead, currentEpoch, faultCount, inputAt, faultsAt, epochAt, netOf, strategyOf, encryptedIn, epochWords, withoutEpoch, stateOk}

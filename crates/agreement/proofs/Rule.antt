@@ -17,9 +17,9 @@ use Rattle.subset.specs.Words.{statusAt}
 use Rattle.subset.specs.Rule.{settledFrom, isOver}
 use Rattle.subset.proofs.Rule.{new-over}
 use Rattle.subset.proofs.Votes.{voted-whole}
-use Rattle.epoch.specs.declared.SubsetHandlingStrategy.{SubsetHandlingStrategy}
-use Rattle.epoch.specs.declared.SubsetHandlingStrategy.the-variants.{Incremental, AllAtEnd}
-use Rattle.epoch.specs.Words.{isComplete, isAccepted, loadDecryption}
+use Rattle.epochwords.specs.declared.SubsetHandlingStrategy.{SubsetHandlingStrategy}
+use Rattle.epochwords.specs.declared.SubsetHandlingStrategy.the-variants.{Incremental, AllAtEnd}
+use Rattle.epochwords.specs.Words.{isComplete, isAccepted, loadDecryption}
 use Rattle.epoch.specs.Epoch.{handlesNow}
 use Rattle.epoch.proofs.Holds.{Going, Done, Holds}
 use Rattle.epoch.proofs.Laws.{epoch-laws, settled-known}

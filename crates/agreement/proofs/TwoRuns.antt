@@ -10,8 +10,8 @@ use borrow.Author.Tests.{eqb-true, eqb-false, eq-eqb, lt-leb}
 use Rattle.steps.specs.declared.network_info.NetworkInfo.{NetworkInfo}
 use Rattle.steps.specs.Network.{Network}
 use Rattle.steps.specs.Taken.{orElse}
-use Rattle.epoch.specs.declared.SubsetHandlingStrategy.{SubsetHandlingStrategy}
-use Rattle.epoch.specs.Words.{isVacant}
+use Rattle.epochwords.specs.declared.SubsetHandlingStrategy.{SubsetHandlingStrategy}
+use Rattle.epochwords.specs.Words.{isVacant}
 use Rattle.epoch.proofs.Told.{EpochLaws}
 use Rattle.state.specs.declared.EncryptionSchedule.the-variants.{Always, Never, EveryNthEpoch, TickTock}
 use Rattle.state.specs.Schedule.{scheduleOf, usedFirst, usedSecond, useOnEpoch}

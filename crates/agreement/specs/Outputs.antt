@@ -9,8 +9,8 @@ use Rattle.steps.specs.Answers.{Rec}
 use Rattle.steps.specs.Taken.{isThere, isTrue}
 use Rattle.steps.specs.Times.{timesAsked}
 use Rattle.subset.specs.Rule.{isOver}
-use Rattle.epoch.specs.declared.SubsetHandlingStrategy.{SubsetHandlingStrategy}
-use Rattle.epoch.specs.Words.{DecryptionState, missing, ongoing, complete}
+use Rattle.epochwords.specs.declared.SubsetHandlingStrategy.{SubsetHandlingStrategy}
+use Rattle.epochwords.specs.Words.{DecryptionState, missing, ongoing, complete}
 use Rattle.epoch.specs.Epoch.{handlesNow}
 use Rattle.steps.specs.Batches.{BatchEntry}
 use Rattle.agreement.specs.History.{Event, plaintext, Handed}

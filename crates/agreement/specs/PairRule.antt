@@ -6,7 +6,7 @@ use mathlib.Core.Bool.{cond, _&&_}
 use mathlib.Core.Option.{Option, some}
 use lib.ListN.{take}
 use Rattle.subset.specs.Rule.{isOver, settledFrom}
-use Rattle.epoch.specs.Words.{loadDecryption}
+use Rattle.epochwords.specs.Words.{loadDecryption}
 use Rattle.state.specs.State.{epochWords}
 use Rattle.agreement.specs.History.{Handed, handed, valueTaken, decisionTaken}
 use Rattle.agreement.specs.Claim.{Made, historyOf, encryptedOf}

@@ -13,8 +13,8 @@ use Rattle.steps.specs.Network.{isValidator, numCorrect}
 use Rattle.steps.specs.Table.{within}
 use Rattle.steps.specs.Taken.{orElse, isThere, isTrue, firstTaken, ofValue, asked, onesFrom}
 use Rattle.subset.specs.Rule.{isOver}
-use Rattle.epoch.specs.declared.SubsetHandlingStrategy.{SubsetHandlingStrategy}
-use Rattle.epoch.specs.Words.{isComplete, isAccepted, loadDecryption}
+use Rattle.epochwords.specs.declared.SubsetHandlingStrategy.{SubsetHandlingStrategy}
+use Rattle.epochwords.specs.Words.{isComplete, isAccepted, loadDecryption}
 use Rattle.state.specs.State.{nodes, ahead, currentEpoch, netOf, strategyOf, epochWords, stateOk}
 use Rattle.engine.specs.Create.{Numbers, createReply, createState}
 use Rattle.agreement.specs.History.{Call, stateAfter, Event, valueTaken, decisionTaken, plaintext, Handed, handed}

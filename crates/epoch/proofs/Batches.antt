@@ -9,9 +9,9 @@ use lib.Seq.{getD-set-same, getD-set-other}
 use Rattle.steps.specs.declared.network_info.NetworkInfo.{NetworkInfo}
 use Rattle.steps.specs.Answers.{Tape}
 use Rattle.subset.specs.Words.{epochLength, statusAt}
-use Rattle.epoch.specs.declared.SubsetHandlingStrategy.{SubsetHandlingStrategy}
+use Rattle.epochwords.specs.declared.SubsetHandlingStrategy.{SubsetHandlingStrategy}
 use Rattle.epoch.specs.declared.MessageContent.{MessageContent}
-use Rattle.epoch.specs.Words.{isVacant}
+use Rattle.epochwords.specs.Words.{isVacant}
 use Rattle.epoch.specs.Epoch.{newEpoch, propose, handleMessageContent}
 use Rattle.epoch.proofs.Writes.{keeps-propose, keeps-message}
 

@@ -18,13 +18,13 @@ use Rattle.decryption.specs.Decrypt.{isSender}
 use Rattle.decryption.proofs.Bounded.{Writes as Calls, set-writes, start-writes, handle-writes as share-writes}
 use Rattle.subset.specs.Words.{recordLength, countAt}
 use Rattle.subset.proofs.Bounded.{Writes, propose-writes as propose-subset, handle-writes as handle-subset}
-use Rattle.epoch.specs.declared.SubsetHandlingStrategy.{SubsetHandlingStrategy}
+use Rattle.epochwords.specs.declared.SubsetHandlingStrategy.{SubsetHandlingStrategy}
 use Rattle.epoch.specs.declared.MessageContent.{MessageContent}
 use Rattle.epoch.specs.declared.MessageContent.the-variants.{Subset, DecryptionShare}
-use Rattle.epoch.specs.Words.{isComplete, isAccepted, DecryptionState, missing, ongoing, complete, loadDecryption, plaintextIn}
+use Rattle.epochwords.specs.Words.{isComplete, isAccepted, DecryptionState, missing, ongoing, complete, loadDecryption, plaintextIn}
 use Rattle.epoch.proofs.Shares.{by-entry, by-share}
 use Rattle.epoch.specs.Epoch.{firstContributions, unexpectedFrom, unexpectedShares, handlesNow, processDecryption, callEntry, inputCiphertext, sendDecryptionShare, handleDecryptionShare, finishAt, finishFrom, handleContribution, handleFrom, handleContributions, processSubset, handedUp, callSubset, propose, handleMessageContent}
-use Rattle.epoch.specs.Batch.{isRead, readAt, readFrom, entriesFrom, outputBatchIn, outputBatch}
+use Rattle.epochwords.specs.Batch.{isRead, readAt, readFrom, entriesFrom, outputBatchIn, outputBatch}
 
 -- a list with one entry or none before it
 one-more : (x : Bool) (e : Entry) (l : List Entry) (m : ℕ) → length l ≤ m → length (cond x (e ∷ []) [] ++ l) ≤ suc m

@@ -21,7 +21,7 @@ use Rattle.decryption.specs.Outcomes.{leftSet}
 use Rattle.epoch.specs.declared.epoch_state.Outcome.the-variants.{Done, Refused, Failed}
 use Rattle.epoch.specs.declared.epoch_state.Called.{Called}
 use Rattle.epoch.specs.declared.epoch_state.Called.the-variants.{Nothing, Plaintext, Refused as NotCalled, Failed as CallFailed}
-use Rattle.epoch.specs.Words.{isComplete, isAccepted, asks, decryptionAt, loadEntry, storeEntry, storeDecryption, entryOngoing, entryComplete}
+use Rattle.epochwords.specs.Words.{isComplete, isAccepted, asks, decryptionAt, loadEntry, storeEntry, storeDecryption, entryOngoing, entryComplete}
 use Rattle.epoch.specs.Epoch.{entryAfter, processDecryption, callEntry, inputCiphertext, sendDecryptionShare, handleDecryptionShare}
 use Rattle.epoch.specs.Outcomes.{calledVerdict, leftOf}
 

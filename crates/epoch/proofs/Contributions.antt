@@ -13,16 +13,16 @@ use Rattle.steps.specs.Answers.{Rec, Tape}
 use Rattle.steps.specs.Runs.{going, ends}
 use Rattle.steps.specs.Taken.{orElse, isThere}
 use Rattle.subset.specs.Words.{epochLength, acceptedAt, countAt, recordAt, valueAt, arrivalAt, loadProposal}
-use Rattle.subset.proofs.After.{After, after-map, after-cond, after-onward}
+use Rattle.steps.proofs.After.{After, after-map, after-cond, after-onward, Reads, after-about}
 use Rattle.subset.proofs.Proposals.{outputOf}
 use Rattle.subset.proofs.Held.{Held, isOut}
 use Rattle.subset.proofs.Taken.{put-same, put-other, more}
-use Rattle.epoch.specs.declared.SubsetHandlingStrategy.{SubsetHandlingStrategy}
-use Rattle.epoch.specs.Words.{isAccepted, accept, DecryptionState, missing, ongoing, complete, loadDecryption, storeDecryption}
+use Rattle.epochwords.specs.declared.SubsetHandlingStrategy.{SubsetHandlingStrategy}
+use Rattle.epochwords.specs.Words.{isAccepted, accept, DecryptionState, missing, ongoing, complete, loadDecryption, storeDecryption}
 use Rattle.epoch.specs.Epoch.{callEntry, inputCiphertext, sendDecryptionShare, handleContribution, handleFrom}
 use Rattle.epoch.proofs.Passes.{decryptionKinds}
-use Rattle.epoch.proofs.Texts.{Reads, after-about, reads-eight, reads-past}
-use Rattle.epoch.proofs.Entries.{accept-size, accept-word, accept-same, accept-other, accepted-kept}
+use Rattle.epoch.proofs.Texts.{reads-eight, reads-past}
+use Rattle.epochwords.proofs.Entries.{accept-size, accept-word, accept-same, accept-other, accepted-kept}
 use Rattle.epoch.proofs.Handled.{TextOk, text-words, text-stored, text-accept, Opening, opening-same, opening-then, opening-ran, Stays, stays-same, stays-store, input-entry, TextsOk}
 
 -- THE WORDS THAT HANDLING LEAVES

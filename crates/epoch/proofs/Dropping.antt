@@ -15,7 +15,7 @@ use Rattle.steps.proofs.Laws.{putAll-append}
 use Rattle.steps.proofs.Runs.{leaves-before, onward-go}
 use Rattle.decryption.specs.declared.ThresholdDecrypt.{ThresholdDecrypt}
 use Rattle.decryption.specs.Decrypt.{new, isSender}
-use Rattle.epoch.specs.Words.{isAccepted, missing, ongoing, complete, decryptionAt, plaintextAt, loadInstance, loadDecryption, storeEntry, storeDecryption, entryNone, entryOngoing}
+use Rattle.epochwords.specs.Words.{isAccepted, missing, ongoing, complete, decryptionAt, plaintextAt, loadInstance, loadDecryption, storeEntry, storeDecryption, entryNone, entryOngoing}
 use Rattle.epoch.specs.Epoch.{unexpectedFrom, unexpectedShares, proposalDropped, finishAt, finishFrom}
 use Rattle.epoch.specs.Outcomes.{leftDone}
 

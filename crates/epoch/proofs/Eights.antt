@@ -24,21 +24,21 @@ use Rattle.decryption.specs.Decrypt.{handleMessage as handleShare}
 use Rattle.subset.specs.Words.{statusAt, decidedAt, acceptedAt, countAt, recordAt, proposalAt, valueAt, arrivalAt}
 use Rattle.subset.specs.Subset.{propose as proposeSubset, handleMessage as handleSubset}
 use Rattle.subset.specs.Rule.{isOver}
-use Rattle.subset.proofs.After.{After, after-map, after-cond, after-onward, after-inside}
+use Rattle.steps.proofs.After.{After, after-map, after-cond, after-onward, after-inside, Reads, after-ask, after-about}
 use Rattle.subset.proofs.Proposals.{outputOf}
 use Rattle.subset.proofs.Held.{Held}
 use Rattle.subset.proofs.Calls.{Called}
-use Rattle.epoch.specs.declared.SubsetHandlingStrategy.{SubsetHandlingStrategy}
-use Rattle.epoch.specs.declared.SubsetHandlingStrategy.the-variants.{Incremental, AllAtEnd}
+use Rattle.epochwords.specs.declared.SubsetHandlingStrategy.{SubsetHandlingStrategy}
+use Rattle.epochwords.specs.declared.SubsetHandlingStrategy.the-variants.{Incremental, AllAtEnd}
 use Rattle.epoch.specs.declared.MessageContent.{MessageContent}
 use Rattle.epoch.specs.declared.MessageContent.the-variants.{Subset, DecryptionShare}
-use Rattle.epoch.specs.Words.{isAccepted, missing, complete, loadEntry, loadDecryption, storeDecryption}
+use Rattle.epochwords.specs.Words.{isAccepted, missing, complete, loadEntry, loadDecryption, storeDecryption}
 use Rattle.epoch.proofs.Shares.{by-entry, by-share}
 use Rattle.epoch.specs.Epoch.{firstContributions, handlesNow, subsetComplete, proposalDropped, entryAfter, processDecryption, callEntry, inputCiphertext, sendDecryptionShare, handleDecryptionShare, finishAt, finishFrom, handleContribution, handleFrom, handleContributions, processSubset, handedUp, callSubset, propose, handleMessageContent}
 use Rattle.epoch.proofs.Told.{shareOf, Told}
 use Rattle.epoch.proofs.Passes.{subsetKinds, subset-eight, entryKinds, entry-eight, outside-accepted, outside-record, Frame, share-runs, input-runs}
-use Rattle.epoch.proofs.Texts.{Reads, after-ask, after-about, reads-past, after-with, after-both, after-any}
-use Rattle.epoch.proofs.Entries.{accepted-kept, store-low}
+use Rattle.epoch.proofs.Texts.{reads-past, after-with, after-both, after-any}
+use Rattle.epochwords.proofs.Entries.{accepted-kept, store-low}
 use Rattle.epoch.proofs.Handled.{text-words, text-value, process-after, TextsOk}
 use Rattle.epoch.proofs.Contributions.{held-same, Contributed, contribution-ok, output-value}
 use Rattle.epoch.proofs.Finishing.{cut-word}

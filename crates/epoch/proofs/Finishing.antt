@@ -14,14 +14,14 @@ use Rattle.steps.specs.Answers.{Tape}
 use Rattle.steps.specs.Runs.{going, ends, before}
 use Rattle.subset.specs.declared.ProposalState.the-variants.{Ongoing, HasValue, Accepted, Complete}
 use Rattle.subset.specs.Words.{epochLength, statusAt, decidedAt, acceptedAt, countAt, recordAt, proposalAt, valueAt, arrivalAt, proposalOf, loadProposal, dropFrom}
-use Rattle.subset.proofs.After.{After, after-map, after-onward}
+use Rattle.steps.proofs.After.{After, after-map, after-onward}
 use Rattle.subset.proofs.Proposals.{stateOf, outputOf}
 use Rattle.subset.proofs.Counts.{countIf}
 use Rattle.subset.proofs.Frames.{apart, differ}
 use Rattle.subset.proofs.Held.{Held, isOut, isNew}
-use Rattle.epoch.specs.Words.{isAccepted, missing, loadDecryption, storeDecryption}
+use Rattle.epochwords.specs.Words.{isAccepted, missing, loadDecryption, storeDecryption}
 use Rattle.epoch.specs.Epoch.{firstContributions, unexpectedShares, subsetComplete, proposalDropped, finishAt, finishFrom}
-use Rattle.epoch.proofs.Entries.{accepted-kept}
+use Rattle.epochwords.proofs.Entries.{accepted-kept}
 use Rattle.epoch.proofs.Handled.{TextOk, text-words, text-stored, text-drop, Stays, stays-store, TextsOk}
 
 -- CUTTING THE LIST. The words that are neither a value nor an arrival stay

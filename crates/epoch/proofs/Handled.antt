@@ -16,13 +16,13 @@ use Rattle.steps.proofs.Past.{Past, past-same, past-then}
 use Rattle.decryption.specs.declared.ThresholdDecrypt.{ThresholdDecrypt}
 use Rattle.decryption.specs.Decrypt.{new, handleMessage as handleShare}
 use Rattle.subset.specs.Words.{epochLength, recordAt}
-use Rattle.subset.proofs.After.{AfterAs, After, after-map}
+use Rattle.steps.proofs.After.{AfterAs, After, after-map}
 use Rattle.subset.proofs.Taken.{more, link-more}
-use Rattle.epoch.specs.Words.{isAccepted, DecryptionState, missing, ongoing, complete, entryNone, entryOngoing, asks, loadEntry, decryptionAt, plaintextAt, ciphertextAt, loadInstance, loadDecryption, storeDecryption}
+use Rattle.epochwords.specs.Words.{isAccepted, DecryptionState, missing, ongoing, complete, entryNone, entryOngoing, asks, loadEntry, decryptionAt, plaintextAt, ciphertextAt, loadInstance, loadDecryption, storeDecryption}
 use Rattle.epoch.specs.Epoch.{entryAfter, processDecryption, callEntry, inputCiphertext}
 use Rattle.epoch.proofs.Passes.{decryptionKinds}
 use Rattle.epoch.proofs.Texts.{opens-none, Ran, SharedWith, input-ran, share-ran}
-use Rattle.epoch.proofs.Entries.{entry-tag, entry-plaintext, entry-ciphertext, store-size, store-low, store-other, store-subset}
+use Rattle.epochwords.proofs.Entries.{entry-tag, entry-plaintext, entry-ciphertext, store-size, store-low, store-other, store-subset}
 
 -- AN ENTRY, by whether the epoch is encrypted and its proposer is accepted, by its value v and by what was decrypted, t
 unfoldable pub TextOk : Bool → DecryptionState → Bool → Option ℕ → Option ℕ → Type 0

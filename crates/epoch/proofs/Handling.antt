@@ -21,16 +21,16 @@ use Rattle.steps.proofs.Runs.{onward-go, onward-stop}
 use Rattle.decryption.specs.declared.ThresholdDecrypt.{ThresholdDecrypt}
 use Rattle.decryption.specs.Decrypt.{new}
 use Rattle.subset.specs.Words.{epochLength, newEpoch, acceptedAt, countAt, countOf, recordAt, valueAt, arrivalAt, contributor, dropFrom}
-use Rattle.epoch.specs.declared.SubsetHandlingStrategy.{SubsetHandlingStrategy}
-use Rattle.epoch.specs.declared.SubsetHandlingStrategy.the-variants.{Incremental, AllAtEnd}
+use Rattle.epochwords.specs.declared.SubsetHandlingStrategy.{SubsetHandlingStrategy}
+use Rattle.epochwords.specs.declared.SubsetHandlingStrategy.the-variants.{Incremental, AllAtEnd}
 use Rattle.epoch.specs.declared.epoch_state.Outcome.{Outcome}
 use Rattle.epoch.specs.declared.epoch_state.Outcome.the-variants.{Done, Refused, Failed}
-use Rattle.epoch.specs.Shape.{Listed}
-use Rattle.epoch.specs.Words.{accept, DecryptionState, complete, storeEntry, storeDecryption, entryComplete}
+use Rattle.epochwords.specs.Shape.{Listed}
+use Rattle.epochwords.specs.Words.{accept, DecryptionState, complete, storeEntry, storeDecryption, entryComplete}
 use Rattle.epoch.specs.Epoch.{entryAfter, handlesNow, subsetComplete, processDecryption, callEntry, inputCiphertext, sendDecryptionShare, finishFrom, handleContribution, handleFrom, handleContributions, processSubset}
 use Rattle.epoch.specs.Outcomes.{outcomeVerdict, leftDone}
 use Rattle.epoch.proofs.Shares.{by-entry}
-use Rattle.epoch.proofs.Entries.{accept-word, store-low, store-subset}
+use Rattle.epochwords.proofs.Entries.{accept-word, store-low, store-subset}
 use Rattle.epoch.proofs.epoch_state.Outcome.{the-type as outcome-type}
 
 -- the way of a `let Outcome::Done = x else` that is not taken

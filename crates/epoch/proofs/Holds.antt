@@ -15,20 +15,20 @@ use Rattle.steps.specs.Network.{numCorrect}
 use Rattle.steps.specs.Answers.{Rec, Tape}
 use Rattle.steps.specs.Runs.{going, ends}
 use Rattle.steps.specs.Taken.{isThere, isTrue, onesFrom}
-use Rattle.steps.proofs.Laws.{and-true}
+use Rattle.steps.proofs.Laws.{and-true, same-tests}
 use Rattle.steps.proofs.Chains.{Bit}
 use Rattle.subset.specs.Words.{epochLength, statusAt, decidedAt, acceptedAt, countAt, recordAt}
 use Rattle.subset.specs.Rule.{settledFrom, isOver}
-use Rattle.subset.proofs.After.{After, after-map, after-onward, after-inside}
+use Rattle.steps.proofs.After.{After, after-map, after-onward, after-inside}
 use Rattle.subset.proofs.Proposals.{outputOf}
 use Rattle.subset.proofs.Frames.{differ}
 use Rattle.subset.proofs.Held.{Held, isOut}
 use Rattle.subset.proofs.Taken.{cell, settled-cell}
-use Rattle.epoch.specs.declared.SubsetHandlingStrategy.{SubsetHandlingStrategy}
-use Rattle.epoch.specs.declared.SubsetHandlingStrategy.the-variants.{Incremental, AllAtEnd}
-use Rattle.epoch.specs.Words.{isAccepted}
+use Rattle.epochwords.specs.declared.SubsetHandlingStrategy.{SubsetHandlingStrategy}
+use Rattle.epochwords.specs.declared.SubsetHandlingStrategy.the-variants.{Incremental, AllAtEnd}
+use Rattle.epochwords.specs.Words.{isAccepted}
 use Rattle.epoch.specs.Epoch.{firstContributions, handlesNow, subsetComplete, finishFrom, handleFrom, handleContributions, processSubset}
-use Rattle.epoch.proofs.Entries.{accepted-kept}
+use Rattle.epochwords.proofs.Entries.{accepted-kept}
 use Rattle.epoch.proofs.Handled.{Opening, opening-same, text-words, TextsOk}
 use Rattle.epoch.proofs.Contributions.{held-same, Looped, handle-ok}
 use Rattle.epoch.proofs.Finishing.{cut-word, cut-held, done-ok}
@@ -68,12 +68,6 @@ out-true (some x) (some zero) k e = refl
 out-true none (some (suc zero)) k e = absurd (false≢true e)
 out-true (some x) (some (suc zero)) k e = refl
 out-true a (some (suc (suc d))) k e = absurd (omega arith)
-
--- two tests that say the same
-pub same-tests : (x y : Bool) → (x ≡ true → y ≡ true) → (y ≡ true → x ≡ true) → x ≡ y
-same-tests true y f g = sym (f refl)
-same-tests false true f g = g refl
-same-tests false false f g = refl
 
 -- ALL CONTRIBUTIONS ARE HANDLED
 record AllHandled (encrypted : Bool) (n : ℕ) (w : List ℕ) (v d t : ℕ → Option ℕ) (who : Option ℕ) (ws : List Rec) (w′ : List ℕ) (r : List Rec) : Type 0 where

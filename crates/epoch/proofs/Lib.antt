@@ -1,19 +1,16 @@
 -- What is proved of the definitions, for this crate's proofs and for those above it.
-pub mod Storing
 pub mod Calling
 pub mod Dropping
 pub mod Handling
 pub mod Listing
 pub mod Reaching
 pub mod Writes
-pub mod RangesWords
 pub mod Ranges
 pub mod Told
 pub mod Shares
 pub mod Orderly
 pub mod Passes
 pub mod Texts
-pub mod Entries
 pub mod Handled
 pub mod Contributions
 pub mod Finishing
@@ -23,6 +20,4 @@ pub mod Eights
 pub mod Batches
 pub mod Bounded
 pub mod Orders
-pub mod BatchCode
-pub mod RangeCode
 pub mod Lists

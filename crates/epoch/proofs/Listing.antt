@@ -21,7 +21,7 @@ use Rattle.subset.specs.Words.{isDecided, decidedAt, countAt, countOf, proposal
 use Rattle.subset.specs.Proposal.{asksAgreement, asksBroadcast}
 use Rattle.subset.specs.Subset.{allComplete, countAccepted, contributed, atProposal, broadcastAt, agreementAt, voteFrom, votes, tryOutput, propose, handleMessage}
 use Rattle.subset.proofs.Frames.{differ, store-word}
-use Rattle.epoch.specs.Shape.{Listed}
+use Rattle.epochwords.specs.Shape.{Listed}
 use Rattle.epoch.proofs.Handling.{set-below}
 
 module _ (n : ℕ) where

@@ -19,13 +19,13 @@ use Rattle.steps.proofs.Ranges.{zeros-at}
 use Rattle.decryption.specs.declared.ThresholdDecrypt.{ThresholdDecrypt}
 use Rattle.subset.specs.Words.{epochLength, statusOngoing, newEpoch, statusAt, decidedAt, countAt, countOf, dropFrom}
 use Rattle.subset.proofs.Ranges.{limitAt, EpochOk}
-use Rattle.epoch.specs.declared.SubsetHandlingStrategy.{SubsetHandlingStrategy}
-use Rattle.epoch.specs.declared.SubsetHandlingStrategy.the-variants.{Incremental, AllAtEnd}
+use Rattle.epochwords.specs.declared.SubsetHandlingStrategy.{SubsetHandlingStrategy}
+use Rattle.epochwords.specs.declared.SubsetHandlingStrategy.the-variants.{Incremental, AllAtEnd}
 use Rattle.epoch.specs.declared.MessageContent.{MessageContent}
 use Rattle.epoch.specs.declared.MessageContent.the-variants.{Subset, DecryptionShare}
-use Rattle.epoch.specs.Words.{isComplete, storeDecryption, mostKept}
+use Rattle.epochwords.specs.Words.{isComplete, storeDecryption, mostKept}
 use Rattle.epoch.specs.Epoch.{firstContributions, entryAfter, handlesNow, subsetComplete, processDecryption, finishAt, finishFrom, handleContributions, processSubset, handedUp, callSubset, propose, handleMessageContent}
-use Rattle.epoch.proofs.Entries.{store-low}
+use Rattle.epochwords.proofs.Entries.{store-low}
 use Rattle.epoch.proofs.Shares.{by-entry, by-share}
 use Rattle.epoch.proofs.Orders.{finish-words}
 

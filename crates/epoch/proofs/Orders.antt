@@ -26,18 +26,17 @@ use Rattle.decryption.specs.Decrypt.{setCiphertext}
 use Rattle.subset.specs.Words.{recordLength, epochLength, statusAt, decidedAt, acceptedAt, countAt, recordAt, proposalAt, valueAt, arrivalAt, addContribution}
 use Rattle.subset.specs.Bits.{receivedTags, proposalsIn}
 use Rattle.subset.specs.Subset.{receivedProposals as receivedBySubset}
-use Rattle.subset.proofs.After.{AfterAs, After, after-map, after-cond, after-onward}
+use Rattle.steps.proofs.After.{AfterAs, After, after-map, after-cond, after-onward, after-about}
 use Rattle.subset.proofs.Frames.{apart, differ, add-word, add-value, add-arrival}
 use Rattle.subset.proofs.Bits.{ones-bits, received-ones}
-use Rattle.epoch.specs.declared.SubsetHandlingStrategy.{SubsetHandlingStrategy}
-use Rattle.epoch.specs.declared.SubsetHandlingStrategy.the-variants.{AllAtEnd}
-use Rattle.epoch.specs.Words.{isVacant, isComplete, isAccepted, accept, missing, ongoing, complete, entryOngoing, decryptionAt, plaintextAt, shareAt, asks, isSettled, decryptionIn, sharesFrom, loadInstance, loadEntry, loadDecryption, storeEntry, storeDecryption}
+use Rattle.epochwords.specs.declared.SubsetHandlingStrategy.{SubsetHandlingStrategy}
+use Rattle.epochwords.specs.declared.SubsetHandlingStrategy.the-variants.{AllAtEnd}
+use Rattle.epochwords.specs.Words.{isVacant, isComplete, isAccepted, accept, missing, ongoing, complete, entryOngoing, decryptionAt, plaintextAt, shareAt, asks, isSettled, decryptionIn, sharesFrom, loadInstance, loadEntry, loadDecryption, storeEntry, storeDecryption}
 use Rattle.epoch.specs.Epoch.{receivedProposals, unexpectedFrom, unexpectedShares, subsetComplete, proposalDropped, entryAfter, processDecryption, callEntry, inputCiphertext, sendDecryptionShare, handleContribution, handleFrom, handleContributions, processSubset, firstContributions, handlesNow, finishAt, finishFrom}
-use Rattle.epoch.specs.Batch.{decryptedFrom, isReadyIn, isReady, isRead, readAt, readFrom}
+use Rattle.epochwords.specs.Batch.{decryptedFrom, isReadyIn, isReady, isRead, readAt, readFrom}
 use Rattle.subset.specs.Rule.{Contribution, contributionsFrom}
 use Rattle.epoch.specs.Orders.{receivedBits, isUnexpected, bySender, byProposer, handleEach}
-use Rattle.epoch.proofs.Entries.{accept-word, accept-same, entry-tag, store-size, places, store-word, store-subset}
-use Rattle.epoch.proofs.Texts.{after-about}
+use Rattle.epochwords.proofs.Entries.{accept-word, accept-same, entry-tag, store-size, places, store-word, store-subset}
 use Rattle.epoch.proofs.Shares.{by-entry}
 
 -- RECEIVED PROPOSALS are the ones of a word: of an ongoing epoch the proposals in HasValue or Complete with 1, after Done the accepted ones
@@ -312,26 +311,3 @@ module _ (n p : ℕ) (w : List ℕ) (inside : p < n) (size : length w ≡ epochL
       let long : length v ≡ length w = store-size n p w (ongoing td) in
       epoch-waits n p (accept v p) inside (accept-same v p (omega (arith, size)))
       (rw (accept-word v p (decryptionAt n p) (λ e. omega arith), entry-tag n p w entryOngoing 0 td inside size))
-
--- THE ENTRIES OF A BATCH are as many as the readable ones, which the language's count of ones counts: no bit above the n-th is ever set
-module _ (size n : ℕ) where
-  abbrev Few : ℕ → List ℕ → Tape → Type 0
-  Few readable w z = readable < 2 ^ n
-
-  readable-at : (p readable : ℕ) (w : List ℕ) (u : Tape) → p < n → readable < 2 ^ n → After (readAt size p readable w u) Few
-  unfolding readAt
-  readable-at p readable w u l h =
-      after-cond (isRead size w p) _ _ Few
-      (after-about u 13 w _ Few p (λ a b z r. after-cond (eqb a 0) _ _ Few h (with-below n readable p l h)))
-      h
-
-  readable-below : (m p readable : ℕ) (w : List ℕ) (u : Tape) → p + m ≤ n → readable < 2 ^ n → After (readFrom size m p readable w u) Few
-  unfolding readFrom
-  readable-below zero p readable w u l h = h
-  readable-below (suc m) p readable w u l h =
-      after-onward _ _ Few
-      (after-map (readAt size p readable w u) Few _ (readable-at p readable w u (omega arith) h) (λ x w z k. readable-below m (p + 1) x w z (omega arith) k))
-
-  pub entries-ones : (w : List ℕ) (u : Tape) → After (readFrom size n 0 0 w u) (λ readable w z. countBits n 0 readable ≡ ones readable)
-  entries-ones w u =
-      after-map (readFrom size n 0 0 w u) Few _ (readable-below n 0 0 w u (omega arith) (pow-pos n)) (λ x w z k. sym (ones-bits n x k))

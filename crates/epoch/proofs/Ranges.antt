@@ -15,14 +15,14 @@ use Rattle.decryption.specs.declared.ThresholdDecrypt.{ThresholdDecrypt}
 use Rattle.decryption.proofs.Ranges.{InstanceOk, Safe, set-safe, start-safe, handle-safe as share-safe}
 use Rattle.subset.specs.Words.{recordLength, epochLength, statusAt, decidedAt, countAt, proposalAt, valueAt}
 use Rattle.subset.proofs.Ranges.{limitAt, limit-some, EpochOk, set-own, field-below, drop-ok, SafeEpoch, propose-safe as propose-subset-safe, handle-safe as handle-subset-safe}
-use Rattle.epoch.specs.declared.SubsetHandlingStrategy.{SubsetHandlingStrategy}
+use Rattle.epochwords.specs.declared.SubsetHandlingStrategy.{SubsetHandlingStrategy}
 use Rattle.epoch.specs.declared.MessageContent.{MessageContent}
 use Rattle.epoch.specs.declared.MessageContent.the-variants.{Subset, DecryptionShare}
-use Rattle.epoch.specs.Words.{isComplete, isAccepted, missing, complete}
+use Rattle.epochwords.specs.Words.{isComplete, isAccepted, missing, complete}
 use Rattle.epoch.specs.Epoch.{newEpoch, firstContributions, entryAfter, handlesNow, subsetComplete, proposalDropped, processDecryption, callEntry, inputCiphertext, sendDecryptionShare, handleDecryptionShare, finishAt, finishFrom, handleContribution, handleFrom, handleContributions, processSubset, handedUp, callSubset, propose, handleMessageContent}
-use Rattle.epoch.specs.Batch.{isRead, readAt, readFrom, outputBatchIn, outputBatch}
+use Rattle.epochwords.specs.Batch.{isRead, readAt, readFrom, outputBatchIn, outputBatch}
 use Rattle.epoch.proofs.Shares.{by-entry, by-share}
-use Rattle.epoch.proofs.RangesWords.{EntryOk, load-entry-ok, store-entry-ok, accept-ok}
+use Rattle.epochwords.proofs.RangesWords.{EntryOk, load-entry-ok, store-entry-ok, accept-ok}
 
 -- a share that comes in a message is a handle
 unfoldable pub ContentOk : MessageContent → Type 0

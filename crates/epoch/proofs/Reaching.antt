@@ -17,9 +17,9 @@ use Rattle.subset.specs.declared.subset.SubsetOutcome.the-variants.{Ongoing, Do
 use Rattle.subset.specs.Words.{countOf}
 use Rattle.subset.specs.Subset.{propose as proposeSubset}
 use Rattle.subset.specs.Outcomes.{handledVerdict}
-use Rattle.epoch.specs.declared.SubsetHandlingStrategy.{SubsetHandlingStrategy}
+use Rattle.epochwords.specs.declared.SubsetHandlingStrategy.{SubsetHandlingStrategy}
 use Rattle.epoch.specs.declared.epoch_state.Outcome.the-variants.{Refused, Failed}
-use Rattle.epoch.specs.Words.{isComplete}
+use Rattle.epochwords.specs.Words.{isComplete}
 use Rattle.epoch.specs.Epoch.{firstContributions, processSubset, handedUp, callSubset, propose}
 use Rattle.epoch.specs.Outcomes.{leftOf, upAs}
 

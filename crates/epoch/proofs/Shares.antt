@@ -10,7 +10,7 @@ use Rattle.steps.specs.Steps.{fault}
 use Rattle.steps.specs.Runs.{going, Run, ends, before}
 use Rattle.decryption.specs.declared.ThresholdDecrypt.{ThresholdDecrypt}
 use Rattle.decryption.specs.Decrypt.{handleMessage as handleShare}
-use Rattle.epoch.specs.Words.{isComplete, isAccepted, asks, decryptionAt, loadEntry}
+use Rattle.epochwords.specs.Words.{isComplete, isAccepted, asks, decryptionAt, loadEntry}
 use Rattle.epoch.specs.Epoch.{processDecryption, callEntry, handleDecryptionShare}
 
 module _ (net : NetworkInfo) (p : ℕ) (w : List ℕ) (tape : Tape) (P : Run (List ℕ) (Unit {0}) → Type 0) where

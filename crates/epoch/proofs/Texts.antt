@@ -20,40 +20,9 @@ use Rattle.decryption.specs.Decrypt.{withInput, withEnd, isSome, isSender, coun
 use Rattle.decryption.proofs.Laws.{valid-early}
 use Rattle.decryption.proofs.Cycle.{Does}
 use Rattle.decryption.proofs.Errors.{handle-keeps}
-use Rattle.subset.proofs.After.{AfterAs, After, after-map, after-cond, after-onward}
+use Rattle.steps.proofs.After.{AfterAs, After, after-map, after-cond, after-onward, Reads, after-ask, after-about}
 use Rattle.epoch.specs.Epoch.{inputCiphertext}
 use Rattle.epoch.proofs.Passes.{decryptionKinds, entry-past, share-runs, input-runs}
-
--- AN ANSWER THAT WAS READ: p's first record, behind which u stands
-pub record Reads (p : Tape) (kind b : ℕ) (u : Tape) : Type 0 where
-  pub first : Rec
-  pub rests : p .rest ≡ first ∷ u .rest
-  pub ofKind : first .kind ≡ kind
-  pub says : first .b ≡ b
-
-module _ {S A : Type 0} (p : Tape) (kind : ℕ) (s : S) (k : ℕ → ℕ → Tape → Run S A) (Q : A → S → Tape → Type 0) where
-  after-for : (want : Rec → Bool) → ((a b : ℕ) (u : Tape) (r : Rec) → want r ≡ true → p .rest ≡ r ∷ u .rest → r .b ≡ b → After (k a b u) Q) → After (heard (askFor want p (p .rest)) s k) Q
-  unfolding heard heardAs askFor
-  after-for want f = go (p .rest) refl
-    where
-      go : (l : List Rec) → p .rest ≡ l → After (heard (askFor want p l) s k) Q
-      go [] e = tt
-      go (r ∷ rs) e = by (want r) refl
-        where
-          by : (x : Bool) → want r ≡ x → After (heard (cond x (asked (Got (r .a) (r .b)) (tape (r .next) rs)) (asked Refused p)) s k) Q
-          by true t = f (r .a) (r .b) (tape (r .next) rs) r t e refl
-          by false t = tt
-
-  pub after-ask : ((a b : ℕ) (u : Tape) → Reads p kind b u → After (k a b u) Q) → After (heard (ask p kind) s k) Q
-  unfolding ask
-  after-ask f = after-for (λ r. eqb (r .kind) kind) (λ a b u r t e n. f a b u (record { first = r; rests = e; ofKind = eqb-true _ _ t; says = n }))
-
-  pub after-about : (who : ℕ) → ((a b : ℕ) (u : Tape) → Reads p kind who u → After (k a b u) Q) → After (heard (askAbout p kind who) s k) Q
-  unfolding askAbout
-  after-about who f =
-      after-for (λ r. eqb (r .kind) kind && eqb (r .b) who) (λ a b u r t e n.
-      let both = and-true (eqb (r .kind) kind) (eqb (r .b) who) t in
-      f a b u (record { first = r; rests = e; ofKind = eqb-true _ _ (both .0); says = eqb-true _ _ (both .1) }))
 
 -- what holds of a run's state and answers, whatever its verdict
 pub after-with : {S A : Type 0} (r : Run S A) (Q : A → S → Tape → Type 0) (T : S → Tape → Type 0) → T (r .state) (r .tape) → After r Q → After r (λ a s z. Q a s z × T s z)

@@ -13,14 +13,14 @@ use Rattle.steps.specs.Steps.{Entry, Item, faults, outputs}
 use Rattle.steps.specs.Taken.{orElse, isThere, isTrue, firstTaken, ofValue, ofDecision, onesFrom, firstDecrypted, thirteensIn}
 use Rattle.steps.proofs.Chains.{Good}
 use Rattle.subset.specs.Words.{recordLength, epochLength}
-use Rattle.subset.proofs.After.{After}
+use Rattle.steps.proofs.After.{After}
 use Rattle.subset.proofs.Votes.{Voted}
-use Rattle.epoch.specs.declared.SubsetHandlingStrategy.{SubsetHandlingStrategy}
+use Rattle.epochwords.specs.declared.SubsetHandlingStrategy.{SubsetHandlingStrategy}
 use Rattle.epoch.specs.declared.MessageContent.{MessageContent}
 use Rattle.epoch.specs.declared.MessageContent.the-variants.{Subset, DecryptionShare}
-use Rattle.epoch.specs.Words.{plaintextAt}
+use Rattle.epochwords.specs.Words.{plaintextAt}
 use Rattle.epoch.specs.Epoch.{newEpoch, propose, handleMessageContent}
-use Rattle.epoch.specs.Batch.{isReady, isRead}
+use Rattle.epochwords.specs.Batch.{isReady, isRead}
 
 -- what has been taken in an epoch: nothing yet
 abbrev pub nothing : ℕ → Option ℕ

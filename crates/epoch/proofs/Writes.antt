@@ -21,10 +21,10 @@ use Rattle.subset.specs.declared.ProposalState.{ProposalState}
 use Rattle.subset.specs.Words.{isDecided, statusAt, decidedAt, acceptedAt, countAt, proposalAt, valueAt, arrivalAt, tagOf, valueOf, loadProposal, storeProposal, addContribution, dropFrom}
 use Rattle.subset.specs.Proposal.{asksAgreement, asksBroadcast}
 use Rattle.subset.specs.Subset.{allComplete, countAccepted, contributed, atProposal, broadcastAt, agreementAt, voteFrom, votes, tryOutput, propose as proposeSubset, handleMessage as handleSubset}
-use Rattle.epoch.specs.declared.SubsetHandlingStrategy.{SubsetHandlingStrategy}
+use Rattle.epochwords.specs.declared.SubsetHandlingStrategy.{SubsetHandlingStrategy}
 use Rattle.epoch.specs.declared.MessageContent.{MessageContent}
 use Rattle.epoch.specs.declared.MessageContent.the-variants.{Subset, DecryptionShare}
-use Rattle.epoch.specs.Words.{isComplete, isAccepted, accept, DecryptionState, missing, ongoing, complete, decryptionAt, plaintextAt, ciphertextAt, hadInputAt, terminatedAt, shareAt, setShares, storeEntry, storeDecryption}
+use Rattle.epochwords.specs.Words.{isComplete, isAccepted, accept, DecryptionState, missing, ongoing, complete, decryptionAt, plaintextAt, ciphertextAt, hadInputAt, terminatedAt, shareAt, setShares, storeEntry, storeDecryption}
 use Rattle.epoch.proofs.Shares.{by-entry, by-share}
 use Rattle.epoch.specs.Epoch.{firstContributions, entryAfter, handlesNow, subsetComplete, proposalDropped, processDecryption, callEntry, sendDecryptionShare, handleDecryptionShare, finishAt, finishFrom, handleContribution, handleFrom, handleContributions, processSubset, handedUp, callSubset, propose, handleMessageContent}
 

@@ -11,12 +11,12 @@ use Rattle.steps.specs.Steps.{Entry, message, fault, output, Item}
 use Rattle.steps.specs.Runs.{Run, numberOf}
 use Rattle.subset.specs.Words.{acceptedOf, countOf, proposalAt}
 use Rattle.subset.specs.Cases.{answers, yes, no, out}
-use Rattle.epoch.specs.declared.SubsetHandlingStrategy.{SubsetHandlingStrategy}
-use Rattle.epoch.specs.declared.SubsetHandlingStrategy.the-variants.{Incremental, AllAtEnd}
+use Rattle.epochwords.specs.declared.SubsetHandlingStrategy.{SubsetHandlingStrategy}
+use Rattle.epochwords.specs.declared.SubsetHandlingStrategy.the-variants.{Incremental, AllAtEnd}
 use Rattle.epoch.specs.declared.MessageContent.the-variants.{Subset, DecryptionShare}
-use Rattle.epoch.specs.Words.{decryptionAt}
+use Rattle.epochwords.specs.Words.{decryptionAt}
 use Rattle.epoch.specs.Epoch.{newEpoch, receivedProposals, handleMessageContent}
-use Rattle.epoch.specs.Batch.{isReady, outputBatch}
+use Rattle.epochwords.specs.Batch.{isReady, outputBatch}
 use Rattle.epoch.specs.Opened.{opened}
 
 -- THE TABLE'S LANGUAGE. A message for a proposer, from node 0, or a share, from its sender, with these answers; the batch of epoch 5; whether

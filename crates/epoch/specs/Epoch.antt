@@ -17,11 +17,11 @@ use Rattle.subset.specs.Words.{statusAt, decidedAt, countAt, statusComplete, ac
 -- `EpochState::new`
 unfoldable pub use Rattle.subset.specs.Words.{newEpoch}
 use Rattle.subset.specs.Subset.{propose as proposeSubset, handleMessage as handleSubset, receivedProposals as receivedBySubset}
-use Rattle.epoch.specs.declared.SubsetHandlingStrategy.{SubsetHandlingStrategy}
-use Rattle.epoch.specs.declared.SubsetHandlingStrategy.the-variants.{Incremental, AllAtEnd}
+use Rattle.epochwords.specs.declared.SubsetHandlingStrategy.{SubsetHandlingStrategy}
+use Rattle.epochwords.specs.declared.SubsetHandlingStrategy.the-variants.{Incremental, AllAtEnd}
 use Rattle.epoch.specs.declared.MessageContent.{MessageContent}
 use Rattle.epoch.specs.declared.MessageContent.the-variants.{Subset, DecryptionShare}
-use Rattle.epoch.specs.Words.{isVacant, isComplete, isAccepted, accept, DecryptionState, missing, ongoing, complete, asks, decryptionAt, loadEntry, loadDecryption, storeDecryption}
+use Rattle.epochwords.specs.Words.{isVacant, isComplete, isAccepted, accept, DecryptionState, missing, ongoing, complete, asks, decryptionAt, loadEntry, loadDecryption, storeDecryption}
 
 -- "Received proposals are those in HasValue or Complete with 1; after Done, the accepted ones."
 unfoldable pub receivedProposals : ℕ → List ℕ → ℕ

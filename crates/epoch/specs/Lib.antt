@@ -1,9 +1,5 @@
-pub mod Words
-pub mod Shape
 pub mod Epoch
 pub mod Outcomes
-pub mod Batch
-pub mod BatchOutcomes
 pub mod Orders
 pub mod Opened
 pub mod Cases

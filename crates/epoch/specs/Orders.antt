@@ -13,8 +13,8 @@ use Rattle.steps.specs.Runs.{going, Run, ends, onward}
 use Rattle.subset.specs.Words.{recordLength, acceptedOf}
 use Rattle.subset.specs.Rule.{Contribution}
 use Rattle.subset.specs.Bits.{receivedTags, proposalsIn}
-use Rattle.epoch.specs.declared.SubsetHandlingStrategy.{SubsetHandlingStrategy}
-use Rattle.epoch.specs.Words.{isVacant, isComplete, isAccepted, entryOngoing, decryptionAt, shareAt}
+use Rattle.epochwords.specs.declared.SubsetHandlingStrategy.{SubsetHandlingStrategy}
+use Rattle.epochwords.specs.Words.{isVacant, isComplete, isAccepted, entryOngoing, decryptionAt, shareAt}
 use Rattle.epoch.specs.Epoch.{handleContribution}
 
 -- "Received proposals are those in HasValue or Complete with 1; after Done, the accepted ones."

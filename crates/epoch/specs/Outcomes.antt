@@ -9,7 +9,7 @@ use Rattle.steps.specs.declared.step.Step.{Step}
 use Rattle.steps.specs.Steps.{Out, out}
 use Rattle.steps.specs.Runs.{Verdict, going, refused, failed, Run, ends, onward, Left}
 use Rattle.decryption.specs.declared.ThresholdDecrypt.{ThresholdDecrypt}
-use Rattle.epoch.specs.declared.SubsetHandlingStrategy.{SubsetHandlingStrategy}
+use Rattle.epochwords.specs.declared.SubsetHandlingStrategy.{SubsetHandlingStrategy}
 use Rattle.epoch.specs.Epoch.{processSubset, handedUp}
 use Rattle.epoch.specs.declared.epoch_state.Outcome.{Outcome}
 use Rattle.epoch.specs.declared.epoch_state.Outcome.the-variants.{Done, Refused, Failed}

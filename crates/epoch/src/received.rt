@@ -2,12 +2,12 @@
 ghost use mathlib.Core.Path.{_≡_};
 ghost use Prim.Native.Nat.{_^_, _<_};
 ghost use Rattle.subset.specs.Words.{acceptedOf};
-ghost use Rattle.epoch.specs.Shape.{EpochWords};
+ghost use Rattle.epochwords.specs.Shape.{EpochWords};
 ghost use Rattle.epoch.specs.Epoch.{receivedProposals};
-use crate::words::ACCEPTED_AT;
-use crate::words::STATUS_AT;
-use crate::words::STATUS_COMPLETE;
-use crate::words::STATUS_VACANT;
+use epochwords::words::ACCEPTED_AT;
+use epochwords::words::STATUS_AT;
+use epochwords::words::STATUS_COMPLETE;
+use epochwords::words::STATUS_VACANT;
 
 // From how many proposers a value is here: as the subset says, and once it is done those accepted.
 pub fn received_proposals(epoch: &[u64], n: usize) -> usize

@@ -17,17 +17,17 @@ ghost use Prim.Native.Nat.{_≤_, _<_};
 ghost use lib.ListN.{length};
 ghost use Rattle.steps.specs.Network.{Network};
 ghost use Rattle.subset.specs.Words.{epochLength};
-ghost use Rattle.epoch.specs.Shape.{EpochWords};
+ghost use Rattle.epochwords.specs.Shape.{EpochWords};
 use epoch::MessageContent;
-use epoch::SubsetHandlingStrategy;
-use epoch::batch::Handed;
-use epoch::batch::is_ready;
-use epoch::batch::output_batch;
 use epoch::epoch_state::Outcome;
 use epoch::epoch_state::handle_message_content;
 use epoch::epoch_state::propose;
-use epoch::words::STATUS_AT;
-use epoch::words::STATUS_VACANT;
+use epochwords::SubsetHandlingStrategy;
+use epochwords::batch::Handed;
+use epochwords::batch::is_ready;
+use epochwords::batch::output_batch;
+use epochwords::words::STATUS_AT;
+use epochwords::words::STATUS_VACANT;
 use libc::STDIN_FILENO;
 use lines::line_end;
 use lines::number;
@@ -146,7 +146,7 @@ fn enter(
     let net = how.net;
     let strategy = how.strategy;
     let secret = how.encrypted;
-    if !epoch::range::epoch_in_range(epoch, strategy, net.num_nodes) {
+    if !epochwords::range::epoch_in_range(epoch, strategy, net.num_nodes) {
         let outcome = Outcome::Failed(NOT_A_STATE);
         return epoch::epoch_state::Ran { outcome, step };
     }

@@ -9,7 +9,7 @@ use lib.ListN.{length, getD, set, take, drop, replicate, length-append, length-t
 use lib.Seq.{drop-cons, take-suc, set-at, append-snoc, length-take-le, drop-drop, take-all, drop-length, getD-set-same, getD-set-other}
 use Rattle.steps.specs.Numbers.{nodeLimit, aheadLimit, lastEpoch}
 use Rattle.subset.specs.Words.{epochLength}
-use Rattle.epoch.specs.Shape.{EpochWords}
+use Rattle.epochwords.specs.Shape.{EpochWords}
 use Rattle.state.specs.State.{headerLength, nodesAt, aheadAt, epochAt, inputAt, faultsAt, epochsAt, stateLength, nodes, ahead, placeOf, epochWords, withEpoch, withoutEpoch}
 use Rattle.state.specs.Shape.{StateWords}
 use Rattle.state.proofs.Window.{Shaped, header-first, place-is, place-in, words-long, with-head, with-long}

@@ -8,9 +8,9 @@ use Rattle.steps.specs.Numbers.{lastEpoch, faultLimit, nodeLimit, aheadLimit}
 use Rattle.steps.specs.declared.network_info.NetworkInfo.{NetworkInfo}
 use Rattle.steps.specs.Table.{within}
 use Rattle.subset.specs.Words.{epochLength}
-use Rattle.epoch.specs.Words.{allFrom, epochInRange}
-use Rattle.epoch.specs.declared.SubsetHandlingStrategy.{SubsetHandlingStrategy}
-use Rattle.epoch.specs.declared.SubsetHandlingStrategy.the-variants.{Incremental, AllAtEnd}
+use Rattle.epochwords.specs.Words.{allFrom, epochInRange}
+use Rattle.epochwords.specs.declared.SubsetHandlingStrategy.{SubsetHandlingStrategy}
+use Rattle.epochwords.specs.declared.SubsetHandlingStrategy.the-variants.{Incremental, AllAtEnd}
 use Rattle.state.specs.Schedule.{scheduleOf, scheduleOk, usedFirst, usedSecond, useOnEpoch}
 
 abbrev pub headerLength : ℕ

@@ -26,7 +26,7 @@ use crate::words::VACANT_AT;
 use crate::words::epoch_length;
 use crate::words::epochs_at;
 use crate::words::strategy_of;
-use epoch::range::epoch_in_range;
+use epochwords::range::epoch_in_range;
 use steps::numbers::AHEAD_LIMIT;
 use steps::numbers::FAULT_LIMIT;
 use steps::numbers::LAST_EPOCH;

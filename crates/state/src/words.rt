@@ -8,7 +8,7 @@ ghost use Rattle.state.specs.Schedule.{scheduleOf};
 ghost use Rattle.state.specs.State.{headerLength, nodes, schedule, firstNumber, secondNumber, epochsAt, netOf, strategyOf, encryptedIn, placeOf, epochWords, withEpoch, withoutEpoch};
 ghost use Rattle.state.specs.Shape.{StateWords, Divides};
 use crate::schedule::schedule_of;
-use epoch::SubsetHandlingStrategy;
+use epochwords::SubsetHandlingStrategy;
 use steps::network_info::NetworkInfo;
 use subset::words::RECORD_FIELDS;
 use subset::words::RECORDS_AT;

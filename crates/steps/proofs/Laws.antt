@@ -23,6 +23,12 @@ pub and-true : (x y : Bool) → x && y ≡ true → (x ≡ true) × (y ≡ true)
 and-true true y e = (refl, e)
 and-true false y e = absurd (false≢true e)
 
+-- two tests that say the same
+pub same-tests : (x y : Bool) → (x ≡ true → y ≡ true) → (y ≡ true → x ≡ true) → x ≡ y
+same-tests true y f g = sym (f refl)
+same-tests false true f g = g refl
+same-tests false false f g = refl
+
 -- a place that is on a record is above 0, and within the table
 pub on-record : (t : List ℕ) (i : ℕ) → 0 < i → i < length t / 4 → onRecord t i ≡ true
 unfolding onRecord

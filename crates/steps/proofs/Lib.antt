@@ -3,6 +3,7 @@ pub mod Laws
 pub mod Logic
 pub mod Runs
 pub mod RunLaws
+pub mod After
 pub mod Parts
 pub mod Reading
 pub mod Chain

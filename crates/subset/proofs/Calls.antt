@@ -24,7 +24,7 @@ use Rattle.subset.specs.Words.{decidedAt, countAt, proposalAt, valueAt, 
 use Rattle.subset.specs.Proposal.{asksAgreement, asksBroadcast, instanceAnswer, answerAgreement, answerBroadcast}
 use Rattle.subset.specs.Subset.{allComplete, contributed, atProposal, broadcastAt, agreementAt, voteFrom, votes, tryOutput, propose, handleMessage}
 use Rattle.subset.specs.Rule.{settledFrom, isOver, SubsetCall, proposing, broadcasting, agreeing, callSubset, speaks}
-use Rattle.subset.proofs.After.{After, after-map, after-onward, after-inside}
+use Rattle.steps.proofs.After.{After, after-map, after-onward, after-inside}
 use Rattle.subset.proofs.Proposals.{stateOf, outputOf, instance-ok, Agreed, agreement-ok, Went, went-agreed, Broadcasts, broadcast-ok}
 use Rattle.subset.proofs.Held.{Held, held-move}
 use Rattle.subset.proofs.Taken.{put-same, put-other, more, grown-more, link-more, Linked, linked-same, linked-then, ones-grow, over-grows, over-decided, accepted-ones, complete-settled}

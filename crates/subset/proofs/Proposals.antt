@@ -23,7 +23,7 @@ use Rattle.steps.proofs.Chains.{orElse-none, Good, optionOf, parts-output, part
 use Rattle.subset.specs.declared.ProposalState.{ProposalState}
 use Rattle.subset.specs.declared.ProposalState.the-variants.{Ongoing, HasValue, Accepted, Complete}
 use Rattle.subset.specs.Proposal.{moved, afterAgreement, afterBroadcast, asksAgreement, asksBroadcast, instanceAnswer, answerAgreement, voteTrue, afterValue, answerBroadcast}
-use Rattle.subset.proofs.After.{After, after-map, after-onward}
+use Rattle.steps.proofs.After.{After, after-map, after-onward}
 
 -- the state of a proposal whose value and decision taken so far are these
 abbrev pub stateOf : Option ℕ → Option ℕ → ProposalState

@@ -11,7 +11,7 @@ use Rattle.steps.specs.Answers.{Tape}
 use Rattle.steps.specs.Steps.{Out, putAll}
 use Rattle.steps.specs.Runs.{Verdict, going, refused, failed, Run, Left, ends, onward, leaves}
 use Rattle.steps.proofs.Runs.{onward-go, onward-refused, onward-failed}
-use Rattle.epoch.specs.Batch.{isReady, outputBatch}
+use Rattle.epochwords.specs.Batch.{isReady, outputBatch}
 use Rattle.state.specs.State.{epochWords}
 use Rattle.work.specs.declared.honey_badger.Trial.{Trial}
 use Rattle.work.specs.declared.honey_badger.Trial.the-variants.{NotReady, Done, Refused}

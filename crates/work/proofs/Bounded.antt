@@ -16,8 +16,8 @@ use Rattle.steps.proofs.Bounded.{Bounded, chainLimit, table-bounded, bounded-en
 use Rattle.steps.proofs.Counting.{exactOf, counts-exact, records-counted}
 use Rattle.steps.proofs.Finished.{finished}
 use Rattle.epoch.specs.declared.MessageContent.{MessageContent}
-use Rattle.epoch.specs.Words.{isVacant}
-use Rattle.epoch.specs.Batch.{isReady, outputBatch}
+use Rattle.epochwords.specs.Words.{isVacant}
+use Rattle.epochwords.specs.Batch.{isReady, outputBatch}
 use Rattle.epoch.proofs.Bounded.{batch-writes, propose-writes, content-writes}
 use Rattle.subset.proofs.Bounded.{Writes}
 use Rattle.state.specs.State.{inputAt, nodes, ahead, currentEpoch, netOf, epochWords, stateOk}

@@ -20,13 +20,13 @@ use Rattle.subset.specs.declared.ProposalState.{ProposalState}
 use Rattle.subset.specs.Words.{isDecided, loadProposal}
 use Rattle.subset.specs.Proposal.{Moved, asksAgreement, asksBroadcast, afterBroadcast, instanceAnswer, answerAgreement, voteTrue, afterValue, answerBroadcast}
 use Rattle.subset.specs.Subset.{countAccepted, allComplete, atProposal, broadcastAt, agreementAt, voteFrom, votes, tryOutput as trySubset, propose as proposeSubset, handleMessage as handleSubset}
-use Rattle.epoch.specs.declared.SubsetHandlingStrategy.{SubsetHandlingStrategy}
+use Rattle.epochwords.specs.declared.SubsetHandlingStrategy.{SubsetHandlingStrategy}
 use Rattle.epoch.specs.declared.MessageContent.{MessageContent}
 use Rattle.steps.specs.declared.reader.Content.the-variants.{Broadcast, Agreement}
 use Rattle.epoch.specs.declared.MessageContent.the-variants.{Subset, DecryptionShare}
-use Rattle.epoch.specs.Words.{isVacant, isComplete, isAccepted}
+use Rattle.epochwords.specs.Words.{isVacant, isComplete, isAccepted}
 use Rattle.epoch.specs.Epoch.{handlesNow, processDecryption, callEntry, inputCiphertext, sendDecryptionShare, handleDecryptionShare, finishAt, finishFrom, handleContribution, handleFrom, handleContributions, processSubset, handedUp, callSubset, propose as proposeEpoch, handleMessageContent}
-use Rattle.epoch.specs.Batch.{isReady, isRead, readAt, readFrom, outputBatchIn, outputBatch}
+use Rattle.epochwords.specs.Batch.{isReady, isRead, readAt, readFrom, outputBatchIn, outputBatch}
 use Rattle.epoch.proofs.Shares.{by-entry, by-share}
 use Rattle.state.specs.State.{nodes, ahead, currentEpoch, netOf, epochWords}
 use Rattle.work.specs.HoneyBadger.{updateEpoch, epochStateMut, inEpoch, tryOutputBatches, propose, handleMessage}

@@ -7,7 +7,7 @@ use mathlib.Core.Bool.{Bool, true, false}
 use lib.Dec.{eqb}
 use Rattle.steps.specs.Answers.{Tape, askAbout}
 use Rattle.steps.specs.Runs.{Verdict, going, refused, failed, Run, ends, before, onwardAs, onward, inside}
-use Rattle.epoch.specs.Batch.{isRead, outputBatchIn, isReady, readAt, readFrom, outputBatch}
+use Rattle.epochwords.specs.Batch.{isRead, outputBatchIn, isReady, readAt, readFrom, outputBatch}
 use Rattle.state.specs.State.{nodes, ahead, currentEpoch, epochWords, withEpoch, stateOk}
 use Rattle.work.specs.HoneyBadger.{updateEpoch, inEpoch, tryOutputBatches, skipToEpoch}
 use Rattle.work.specs.Work.{batchesFrom}

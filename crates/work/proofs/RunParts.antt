@@ -18,9 +18,9 @@ use Rattle.subset.specs.Words.{statusOf}
 use Rattle.epoch.specs.declared.epoch_state.Outcome.{Outcome}
 use Rattle.epoch.specs.Epoch.{newEpoch}
 use Rattle.epoch.specs.Outcomes.{outcomeVerdict}
-use Rattle.epoch.specs.Shape.{Listed}
+use Rattle.epochwords.specs.Shape.{Listed}
 use Rattle.epoch.proofs.Ranges.{new-epoch-ok}
-use Rattle.epoch.proofs.RangesWords.{ok-listed}
+use Rattle.epochwords.proofs.RangesWords.{ok-listed}
 use Rattle.state.specs.State.{nodes, ahead, currentEpoch, netOf, epochWords, stateOk}
 use Rattle.state.proofs.RangesState.{header-ok, network-ok}
 use Rattle.state.proofs.RangeCode.{words-listed}

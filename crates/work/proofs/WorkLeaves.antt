@@ -9,7 +9,7 @@ use Rattle.steps.specs.Steps.{Out}
 use Rattle.steps.specs.Runs.{going, Run, Left, ends, inside, leaves}
 use Rattle.steps.proofs.Runs.{onward-go, onward-stop}
 use Rattle.steps.proofs.RunLaws.{placed, leaves-inside}
-use Rattle.epoch.specs.Batch.{isReady, outputBatch}
+use Rattle.epochwords.specs.Batch.{isReady, outputBatch}
 use Rattle.state.specs.State.{nodes, ahead, currentEpoch, epochWords}
 use Rattle.work.specs.Work.{epochCall, batchesFrom, Worked, worked, beside, workIn}
 use Rattle.work.proofs.Looping.{batches-ready, batches-over}

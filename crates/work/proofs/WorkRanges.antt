@@ -9,7 +9,7 @@ use Rattle.steps.specs.Runs.{Run}
 use Rattle.steps.proofs.Ranges.{AllSmall, Kept, Any, kept-going, kept-failed, kept-cond, kept-ask, kept-onward}
 use Rattle.subset.proofs.Ranges.{EpochOk, SafeEpoch}
 use Rattle.epoch.specs.declared.MessageContent.{MessageContent}
-use Rattle.epoch.specs.Words.{isVacant}
+use Rattle.epochwords.specs.Words.{isVacant}
 use Rattle.epoch.specs.Epoch.{propose as proposeInEpoch, handleMessageContent}
 use Rattle.epoch.proofs.Ranges.{ContentOk, new-epoch-ok, propose-safe, content-safe}
 use Rattle.state.specs.State.{nodes, netOf, strategyOf, encryptedIn, epochWords, stateOk}

@@ -19,8 +19,8 @@ use Rattle.steps.specs.Steps.{fault}
 use Rattle.steps.proofs.Runs.{onward-at}
 use Rattle.steps.proofs.RunLaws.{onward-assoc, onward-inside}
 use Rattle.subset.specs.Words.{epochLength}
-use Rattle.epoch.specs.Words.{isVacant}
-use Rattle.epoch.specs.declared.SubsetHandlingStrategy.{SubsetHandlingStrategy}
+use Rattle.epochwords.specs.Words.{isVacant}
+use Rattle.epochwords.specs.declared.SubsetHandlingStrategy.{SubsetHandlingStrategy}
 use Rattle.epoch.specs.declared.MessageContent.{MessageContent}
 use Rattle.epoch.specs.Epoch.{newEpoch, propose as proposeInEpoch, handleMessageContent}
 use Rattle.epoch.proofs.Writes.{keeps-propose, keeps-message}

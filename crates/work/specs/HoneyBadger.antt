@@ -10,9 +10,9 @@ use Rattle.steps.specs.Answers.{Tape, ask}
 use Rattle.steps.specs.Steps.{fault}
 use Rattle.steps.specs.Runs.{going, failed, Run, ends, before, onward, heard, inside}
 use Rattle.epoch.specs.declared.MessageContent.{MessageContent}
-use Rattle.epoch.specs.Words.{isVacant}
+use Rattle.epochwords.specs.Words.{isVacant}
 use Rattle.epoch.specs.Epoch.{newEpoch, receivedProposals as receivedInEpoch, propose as proposeInEpoch, handleMessageContent}
-use Rattle.epoch.specs.Batch.{isReady, outputBatch}
+use Rattle.epochwords.specs.Batch.{isReady, outputBatch}
 use Rattle.state.specs.State.{nodes, ahead, currentEpoch, input, epochAt, inputAt, netOf, strategyOf, encryptedIn, epochWords, withEpoch, withoutEpoch}
 
 -- `update_epoch`: the finished epoch is cleared

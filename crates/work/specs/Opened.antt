@@ -1,11 +1,12 @@
 -- The definitions that a closed term computes with: a line `unfolding opened` opens them all.
+use Rattle.epoch.specs.Opened as EpochOpened
 use Rattle.state.specs.Opened as StateOpened
 use Rattle.work.specs.HoneyBadger
 use Rattle.work.specs.Work
 use Rattle.work.specs.Shape
 
 unfoldable pub opened : Unit {0}
-unfolding StateOpened.opened
+unfolding EpochOpened.opened StateOpened.opened
     HoneyBadger.updateEpoch HoneyBadger.epochStateMut HoneyBadger.inEpoch HoneyBadger.tryOutputBatches
     HoneyBadger.propose HoneyBadger.handleMessage HoneyBadger.clearBelow HoneyBadger.skipToEpoch HoneyBadger.hasInput
     HoneyBadger.receivedProposals

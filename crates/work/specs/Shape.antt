@@ -12,7 +12,7 @@ use Rattle.epoch.specs.declared.MessageContent.{MessageContent}
 use Rattle.epoch.specs.declared.epoch_state.Outcome.{Outcome}
 use Rattle.epoch.specs.Outcomes.{outcomeVerdict}
 use Rattle.epoch.specs.Epoch.{propose as proposeInEpoch, handleMessageContent}
-use Rattle.epoch.specs.Batch.{isReady, outputBatch}
+use Rattle.epochwords.specs.Batch.{isReady, outputBatch}
 use Rattle.state.specs.State.{faultCount, inputAt, faultsAt, netOf, strategyOf, encryptedIn}
 use Rattle.work.specs.declared.honey_badger.Call.{Call}
 use Rattle.work.specs.declared.honey_badger.Call.the-variants.{Propose, Message}

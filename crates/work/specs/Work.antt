@@ -8,9 +8,9 @@ use Rattle.steps.specs.Numbers.{instancesBuilt, createSubset}
 use Rattle.steps.specs.Answers.{Tape, tape, ask}
 use Rattle.steps.specs.Runs.{going, failed, Run, ends, onward, heard, inside}
 use Rattle.epoch.specs.declared.MessageContent.{MessageContent}
-use Rattle.epoch.specs.Words.{isVacant}
+use Rattle.epochwords.specs.Words.{isVacant}
 use Rattle.epoch.specs.Epoch.{newEpoch, propose as proposeInEpoch, handleMessageContent}
-use Rattle.epoch.specs.Batch.{isReady, outputBatch}
+use Rattle.epochwords.specs.Batch.{isReady, outputBatch}
 use Rattle.state.specs.State.{nodes, ahead, currentEpoch, netOf, strategyOf, encryptedIn, epochWords, withEpoch}
 use Rattle.work.specs.HoneyBadger.{skipToEpoch}
 

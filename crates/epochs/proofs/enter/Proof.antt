@@ -2,14 +2,14 @@
 use mathlib.Core.Path.{_≡_, refl, sym, _∙_}
 use mathlib.Core.Bool.{Bool, true, false, not}
 use borrow.Author.Needs.{needs}
-use Rattle.epoch.proofs.RangesWords.{epoch-below, ok-listed}
+use Rattle.epochwords.proofs.RangesWords.{epoch-below, ok-listed}
 use Rattle.epochs.proofs.enter.Statement.{statement}
 use Rattle.epochs.proofs.enter.Tie as tie
 use Rattle.epochs.proofs.enter.Reads as reads
 use Rattle.epochs.proofs.enter.Lts as lts
 use Rattle.epoch.proofs.epoch_state.handle_message_content.Reads as handle-message-content-reads
 use Rattle.epoch.proofs.epoch_state.propose.Reads as propose-reads
-use Rattle.epoch.proofs.range.epoch_in_range.Reads as epoch-in-range-reads
+use Rattle.epochwords.proofs.range.epoch_in_range.Reads as epoch-in-range-reads
 use Rattle.epochs.proofs.content_of.Reads as content-of-reads
 
 -- src/main.rt:149:9

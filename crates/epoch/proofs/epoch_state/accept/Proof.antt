@@ -1,7 +1,7 @@
 -- Made by `fill` from answers.txt: change that and fill again.
 use mathlib.Core.Path.{ap}
 use borrow.Author.Needs.{needs}
-use Rattle.epoch.specs.Words.{accept}
+use Rattle.epochwords.specs.Words.{accept}
 use Rattle.epoch.proofs.epoch_state.accept.Statement.{statement}
 use Rattle.epoch.proofs.epoch_state.accept.Tie as tie
 use Rattle.epoch.proofs.epoch_state.accept.Reads as reads

@@ -3,14 +3,14 @@ use mathlib.Core.Path.{_≡_, sym, ap, _∙_}
 use mathlib.Core.Bool.{true, false}
 use native.Mathlib.Omega.{arith}
 use borrow.Author.Needs.{needs}
-use Rattle.epoch.specs.Words.{isAccepted}
+use Rattle.epochwords.specs.Words.{isAccepted}
 use Rattle.epoch.proofs.Dropping.{finish-accepted, finish-other}
 use Rattle.epoch.proofs.epoch_state.finish_at.Statement.{statement}
 use Rattle.epoch.proofs.epoch_state.finish_at.Tie as tie
 use Rattle.epoch.proofs.epoch_state.finish_at.Reads as reads
 use Rattle.epoch.proofs.epoch_state.finish_at.Lts as lts
 use Rattle.decryption.proofs.ThresholdDecrypt.new.Reads as new-reads
-use Rattle.epoch.proofs.entry.store_entry.Reads as store-entry-reads
+use Rattle.epochwords.proofs.entry.store_entry.Reads as store-entry-reads
 use Rattle.epoch.proofs.epoch_state.drop_proposal.Reads as drop-proposal-reads
 use Rattle.epoch.proofs.epoch_state.unexpected_shares.Reads as unexpected-shares-reads
 use Rattle.steps.proofs.bits.has_bit.Reads as has-bit-reads

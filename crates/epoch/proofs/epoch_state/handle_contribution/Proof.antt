@@ -10,7 +10,7 @@ use Rattle.epoch.proofs.epoch_state.handle_contribution.Tie as tie
 use Rattle.epoch.proofs.epoch_state.handle_contribution.Reads as reads
 use Rattle.epoch.proofs.epoch_state.handle_contribution.Lts as lts
 use Rattle.decryption.proofs.ThresholdDecrypt.new.Reads as new-reads
-use Rattle.epoch.proofs.entry.store_entry.Reads as store-entry-reads
+use Rattle.epochwords.proofs.entry.store_entry.Reads as store-entry-reads
 use Rattle.epoch.proofs.epoch_state.accept.Reads as accept-reads
 use Rattle.epoch.proofs.epoch_state.send_decryption_share.Reads as send-decryption-share-reads
 

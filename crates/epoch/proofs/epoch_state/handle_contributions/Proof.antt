@@ -2,7 +2,7 @@
 use mathlib.Core.Path.{sym, ap, _∙_}
 use borrow.Author.Needs.{needs}
 use Rattle.steps.proofs.RunLaws.{leaves-inside}
-use Rattle.epoch.specs.declared.SubsetHandlingStrategy.the-variants.{Incremental}
+use Rattle.epochwords.specs.declared.SubsetHandlingStrategy.the-variants.{Incremental}
 use Rattle.epoch.specs.Epoch.{firstContributions, handleContributions}
 use Rattle.epoch.proofs.Handling.{kept-from}
 use Rattle.epoch.proofs.epoch_state.handle_contributions.Statement.{statement}

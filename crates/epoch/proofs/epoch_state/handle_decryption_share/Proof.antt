@@ -4,7 +4,7 @@ use native.Mathlib.Omega.{arith}
 use borrow.Author.Needs.{needs}
 use Rattle.steps.specs.Steps.{putAll}
 use Rattle.steps.specs.Runs.{leaves}
-use Rattle.epoch.specs.Words.{isAccepted}
+use Rattle.epochwords.specs.Words.{isAccepted}
 use Rattle.epoch.proofs.Calling.{share-unexpected, share-goes}
 use Rattle.epoch.proofs.epoch_state.handle_decryption_share.Statement.{statement}
 use Rattle.epoch.proofs.epoch_state.handle_decryption_share.Tie as tie

@@ -7,7 +7,7 @@ use Rattle.epoch.proofs.epoch_state.process_decryption.Tie as tie
 use Rattle.epoch.proofs.epoch_state.process_decryption.Reads as reads
 use Rattle.epoch.proofs.epoch_state.process_decryption.Lts as lts
 use Rattle.decryption.proofs.ThresholdDecrypt.new.Reads as new-reads
-use Rattle.epoch.proofs.entry.store_entry.Reads as store-entry-reads
+use Rattle.epochwords.proofs.entry.store_entry.Reads as store-entry-reads
 
 -- src/epoch_state.rt:94:25
 enum-told : tie.Need-enum-told

@@ -4,18 +4,18 @@ use borrow.Author.Needs.{needs}
 use borrow.Author.Tests.{not-true, not-false}
 use Rattle.steps.specs.Steps.{putAll}
 use Rattle.steps.specs.Runs.{leaves}
-use Rattle.epoch.specs.Words.{asks}
+use Rattle.epochwords.specs.Words.{asks}
 use Rattle.epoch.proofs.Calling.{process-left, call-off, call-goes}
 use Rattle.epoch.proofs.epoch_state.share_entry.Statement.{statement}
 use Rattle.epoch.proofs.epoch_state.share_entry.Tie as tie
 use Rattle.epoch.proofs.epoch_state.share_entry.Reads as reads
 use Rattle.epoch.proofs.epoch_state.share_entry.Lts as lts
 use Rattle.decryption.proofs.ThresholdDecrypt.handle_message.Reads as handle-message-reads
-use Rattle.epoch.proofs.entry.load_entry.Reads as load-entry-reads
-use Rattle.epoch.proofs.entry.load_tag.Reads as load-tag-reads
+use Rattle.epochwords.proofs.entry.load_entry.Reads as load-entry-reads
+use Rattle.epochwords.proofs.entry.load_tag.Reads as load-tag-reads
 use Rattle.epoch.proofs.epoch_state.numbered.Reads as numbered-reads
 use Rattle.epoch.proofs.epoch_state.process_decryption.Reads as process-decryption-reads
-use Rattle.epoch.proofs.tags.asks.Reads as asks-reads
+use Rattle.epochwords.proofs.tags.asks.Reads as asks-reads
 
 -- src/epoch_state.rt:245:14
 load-tag-requires : tie.Need-load-tag-requires

@@ -7,8 +7,8 @@ use Rattle.epoch.proofs.epoch_state.unexpected_shares.Statement.{statem
 use Rattle.epoch.proofs.epoch_state.unexpected_shares.Tie as tie
 use Rattle.epoch.proofs.epoch_state.unexpected_shares.Reads as reads
 use Rattle.epoch.proofs.epoch_state.unexpected_shares.Lts as lts
-use Rattle.epoch.proofs.entry.load_instance.Reads as load-instance-reads
-use Rattle.epoch.proofs.entry.load_tag.Reads as load-tag-reads
+use Rattle.epochwords.proofs.entry.load_instance.Reads as load-instance-reads
+use Rattle.epochwords.proofs.entry.load_tag.Reads as load-tag-reads
 use Rattle.epoch.proofs.epoch_state.unexpected_from.Reads as unexpected-from-reads
 
 -- src/epoch_state.rt:376:8

@@ -12,7 +12,7 @@ use Rattle.state.proofs.range.epochs_in_range.Statement.{statement}
 use Rattle.state.proofs.range.epochs_in_range.Tie as tie
 use Rattle.state.proofs.range.epochs_in_range.Reads as reads
 use Rattle.state.proofs.range.epochs_in_range.Lts as lts
-use Rattle.epoch.proofs.range.epoch_in_range.Reads as epoch-in-range-reads
+use Rattle.epochwords.proofs.range.epoch_in_range.Reads as epoch-in-range-reads
 use Rattle.state.proofs.words.epoch_length.Reads as epoch-length-reads
 use Rattle.state.proofs.words.epochs_at.Reads as epochs-at-reads
 use Rattle.state.proofs.words.strategy_of.Reads as strategy-of-reads

@@ -7,14 +7,14 @@ use borrow.Author.Tests.{not-true, not-false}
 use Rattle.steps.specs.Steps.{putAll}
 use Rattle.steps.specs.Runs.{going, ends}
 use Rattle.steps.proofs.Runs.{onward-go, onward-refused}
-use Rattle.epoch.specs.BatchOutcomes.{handedVerdict}
+use Rattle.epochwords.specs.BatchOutcomes.{handedVerdict}
 use Rattle.work.specs.Shape.{tryOutputBatch}
 use Rattle.work.proofs.honey_badger.try_output_batch.Statement.{statement}
 use Rattle.work.proofs.honey_badger.try_output_batch.Tie as tie
 use Rattle.work.proofs.honey_badger.try_output_batch.Reads as reads
 use Rattle.work.proofs.honey_badger.try_output_batch.Lts as lts
-use Rattle.epoch.proofs.batch.is_ready.Reads as is-ready-reads
-use Rattle.epoch.proofs.batch.output_batch.Reads as output-batch-reads
+use Rattle.epochwords.proofs.batch.is_ready.Reads as is-ready-reads
+use Rattle.epochwords.proofs.batch.output_batch.Reads as output-batch-reads
 
 -- src/honey_badger.rt:90:16
 add-size : tie.Need-add-size
