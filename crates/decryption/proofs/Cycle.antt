@@ -1,8 +1,8 @@
 -- Starting and combining: each goes on with the other, as in the Rust. Assumes nothing.
-use Prim.Native.Nat.{ℕ, zero, suc, _+_, _<_, _≤_}
+use Prim.Native.Nat.{ℕ, _<_, _≤_}
 use mathlib.Core.Path.{_≡_, refl, sym, ap, _∙_}
 use mathlib.Core.List.{List, [], _∷_}
-use mathlib.Core.Bool.{Bool, true, false, cond, _&&_, not}
+use mathlib.Core.Bool.{Bool, true, false, cond, _&&_}
 use mathlib.Core.Option.{Option, none, some}
 use native.Mathlib.Omega.{arith}
 use lib.ListN.{set}
@@ -12,51 +12,30 @@ use Rattle.steps.specs.declared.network_info.NetworkInfo.{NetworkInfo}
 use Rattle.steps.specs.declared.reader.Answer.{Answer}
 use Rattle.steps.specs.declared.reader.Answer.the-variants.{Got, Refused as NoAnswer}
 use Rattle.steps.specs.Network.{Network, isValidator}
-use Rattle.steps.specs.Answers.{Tape, asked, ask, askAbout}
+use Rattle.steps.specs.Answers.{Tape, asked, ask}
 use Rattle.steps.specs.Steps.{Out, putEntry, putAll, message}
-use Rattle.steps.specs.Runs.{Verdict, going, refused, failed, Run, ends, before, onwardAs, onward, heard, Left, leaves}
+use Rattle.steps.specs.Runs.{Verdict, going, refused, failed, ends, before, onwardAs, onward, heard, Left, leaves}
 use Rattle.steps.proofs.Laws.{and-true}
+use Rattle.steps.proofs.Logic.{anything}
+use Rattle.steps.proofs.States.{holding}
 use Rattle.steps.proofs.Runs.{onward-go, onward-refused, onward-stop, onward-at, onward-cong, heard-cong, heard-got, heard-none}
-use Rattle.decryption.specs.Decrypt.{withShares, withInput, withEnd, isSender, countShares, isShareValid, checkShare, removeFrom, removeInvalidShares, ownShare, startWith, combine, tryWith, startDecryption, tryOutput}
+use Rattle.decryption.specs.Decrypt.{withShares, withInput, withEnd, countShares, removeInvalidShares, ownShare, startWith, combine, tryWith, startDecryption, tryOutput}
 use Rattle.decryption.specs.declared.ThresholdDecrypt.{ThresholdDecrypt}
 use Rattle.decryption.proofs.Ends.{Ends, ends-cond, ends-heard, ends-onward}
+pub use Rattle.decryption.proofs.Walk.{Does}
+use Rattle.decryption.proofs.Walk.{remove-keeps}
 use Rattle.decryption.proofs.Laws.{unset}
-
--- what starting and combining do of an instance and the answers
-abbrev pub Does : Type 0
-Does = ThresholdDecrypt → Tape → Run ThresholdDecrypt (Option ℕ)
 
 -- two ways on that agree where they are taken
 pub cond-cong : {A : Type 0} (x : Bool) {a b c d : A} → a ≡ b → c ≡ d → cond x a c ≡ cond x b d
 cond-cong true p q = p
 cond-cong false p q = q
 
--- checking shares leaves what is not a share: P holds of every instance that differs from td in its shares alone
-module _ (P : ThresholdDecrypt → Type 0) (other : (td : ThresholdDecrypt) (s : List ℕ) → P td → P (withShares td s)) where
-  pub valid-keeps : (i : ℕ) (td : ThresholdDecrypt) (p : Tape) → P td → P (isShareValid i td p .state)
-  unfolding isShareValid
-  valid-keeps i td p h =
-      let E : ThresholdDecrypt → Verdict Bool → Type 0 = λ s v. P s in
-      ends-cond E (eqb (td .ciphertext) 0) _ _ h (ends-heard E (askAbout p 10 i) td _ h (λ a b q. h))
-
-  check-keeps : (i : ℕ) (td : ThresholdDecrypt) (p : Tape) → P td → P (checkShare i td p .state)
-  unfolding checkShare
-  check-keeps i td p h =
-      let E : ThresholdDecrypt → Verdict (Unit {0}) → Type 0 = λ s v. P s in
-      let k = valid-keeps i td p h in
-      ends-cond E (isSender td i) _ _
-      (ends-onward E (isShareValid i td p) _ (λ e. k) (λ m e. k) (λ valid e. ends-cond E (not valid) _ _ (other _ _ k) k))
-      h
-
-  pub remove-keeps : (n i : ℕ) (td : ThresholdDecrypt) (p : Tape) → P td → P (removeFrom n i td p .state)
-  unfolding removeFrom
-  remove-keeps zero i td p h = h
-  remove-keeps (suc n) i td p h =
-      let k = check-keeps i td p h in
-      ends-onward (λ s v. P s) (checkShare i td p) _ (λ e. k) (λ m e. k) (λ b e. remove-keeps n (i + 1) _ _ k)
-
+-- checking shares leaves what is not a share
 pub remove-ended : (x : Bool) (td : ThresholdDecrypt) (p : Tape) → td .terminated ≡ x → removeInvalidShares td p .state .terminated ≡ x
-remove-ended x td p e = remove-keeps (λ s. s .terminated ≡ x) (λ s l h. h) 16 0 td p e
+remove-ended x td p e =
+    let P : ThresholdDecrypt → Type 0 = λ s. s .terminated ≡ x in
+    remove-keeps anything (holding P) (record { reads = λ k e. tt; faults = λ k a e. tt; share = λ td i v u h. h; removed = λ td i h. h }) 16 0 0 td p e
 
 -- a validator has an index among the sixteen
 pub own-below : (net : NetworkInfo) → Network net → (isValidator net && net .«has_key») ≡ true → net .«our_id» < 16

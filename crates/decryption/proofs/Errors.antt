@@ -1,24 +1,26 @@
 -- The Rust's errors: `CiphertextIsNone` cannot arise, a duplicate share combines nothing, and 24 and 25 are the only failures. Assumes nothing.
-use Prim.Native.Nat.{ℕ, zero, suc, _+_}
+use Prim.Native.Nat.{ℕ}
 use mathlib.Core.Path.{_≡_, refl, sym, ap, _∙_}
 use mathlib.Core.List.{[], _∷_}
-use mathlib.Core.Bool.{Bool, true, false, cond, _&&_, not}
-use mathlib.Core.Option.{Option, none, some}
-use native.Mathlib.Omega.{arith}
+use mathlib.Core.Bool.{Bool, true, false, cond, false≢true}
+use mathlib.Core.Option.{Option, none}
 use lib.ListN.{set}
 use lib.Dec.{leb, eqb}
-use borrow.Author.Tests.{eqb-false, not-true, ne-eqb}
+use borrow.Author.Tests.{eqb-true, eqb-false, not-true, ne-eqb}
 use Rattle.steps.specs.declared.network_info.NetworkInfo.{NetworkInfo}
 use Rattle.steps.specs.declared.reader.Answer.the-variants.{Got}
-use Rattle.steps.specs.Network.{isValidator}
-use Rattle.steps.specs.Answers.{Tape, asked, ask, askAbout}
+use Rattle.steps.specs.Answers.{Tape, asked, askAbout}
 use Rattle.steps.specs.Steps.{fault}
-use Rattle.steps.specs.Runs.{Verdict, going, refused, failed, Run, ends, before, onward}
-use Rattle.decryption.specs.Decrypt.{withShares, withInput, withEnd, isSome, isSender, countShares, setCiphertext, isShareValid, checkShare, removeFrom, removeInvalidShares, ownShare, startWith, combine, tryWith, startDecryption, tryOutput, storeShare, handleMessage}
+use Rattle.steps.specs.Runs.{Verdict, going, failed, Run, ends, before, onward}
+use Rattle.steps.proofs.Logic.{anything}
+use Rattle.steps.proofs.States.{holding}
+use Rattle.steps.proofs.Fails.{only-number, numbers, failing}
+use Rattle.decryption.specs.Decrypt.{withShares, withInput, withEnd, isSome, isSender, countShares, setCiphertext, removeInvalidShares, ownShare, combine, tryWith, startDecryption, tryOutput, storeShare, handleMessage}
 use Rattle.decryption.specs.declared.ThresholdDecrypt.{ThresholdDecrypt}
 use Rattle.decryption.specs.declared.Validity.the-variants.{Valid}
-use Rattle.decryption.proofs.Ends.{Ends, ends-cond, ends-heard, ends-onward}
-use Rattle.decryption.proofs.Cycle.{Does, cond-cong, valid-keeps, remove-keeps, start-redundant, start-onward}
+use Rattle.decryption.proofs.Ends.{ends-cond, ends-heard}
+use Rattle.decryption.proofs.Cycle.{cond-cong, start-redundant, start-onward}
+use Rattle.decryption.proofs.Walk.{Does, Checks, Combines, set-keeps as set-walk, remove-keeps as remove-walk, start-keeps as start-walk, try-keeps as try-walk, store-keeps as store-walk, handle-keeps as handle-walk}
 use Rattle.decryption.proofs.Messages.{store-again, handle-valid}
 use Rattle.decryption.proofs.Laws.{valid-early, valid-told}
 
@@ -35,10 +37,6 @@ set-has proposer c td p =
 -- which is one: 0 stands for none
 pub set-some : (proposer c : ℕ) (td : ThresholdDecrypt) (p : Tape) → (c ≡ 0 → ⊥) → setCiphertext proposer c td p .verdict ≡ going true → setCiphertext proposer c td p .state .ciphertext ≡ 0 → ⊥
 set-some proposer c td p n e z = n (sym (set-has proposer c td p e) ∙ z)
-
--- a run ends with this ciphertext
-abbrev Has : {A : Type 0} → ℕ → ThresholdDecrypt → Verdict A → Type 0
-Has c td v = td .ciphertext ≡ c
 
 module _ (net : NetworkInfo) (proposer : ℕ) where
   -- with a ciphertext a start comes past the test for it
@@ -66,57 +64,32 @@ module _ (net : NetworkInfo) (proposer : ℕ) where
       go true e = refl
       go false e = ap (λ r. onward r (λ _ td q. k td q)) (h (withEnd td) p (eqb-false _ _ e))
 
-  -- nothing takes the ciphertext away
-  abbrev Keeps : Does → Type 0
-  Keeps k = (c : ℕ) (td : ThresholdDecrypt) (p : Tape) → td .ciphertext ≡ c → k td p .state .ciphertext ≡ c
+-- nothing takes the ciphertext away
+module _ (c : ℕ) where
+  abbrev Has : ThresholdDecrypt → Type 0
+  Has td = td .ciphertext ≡ c
 
-  own-keeps : (k : Does) → Keeps k → Keeps (ownShare net proposer k)
-  unfolding ownShare
-  own-keeps k h c td p e =
-      ends-cond (Has c) (isValidator net && net .«has_key») _ _
-      (ends-heard (Has c) (ask p 11) td _ e (λ a b q. h c _ q e))
-      (h c td p e)
+  still : Combines anything (holding Has)
+  still = record {
+    checks = record { reads = λ k e. tt; faults = λ k a e. tt; share = λ td i v u h. h; removed = λ td i h. h };
+    sends = λ a b. tt;
+    number = tt;
+    input = λ td h. h;
+    end = λ td h. h;
+  }
 
-  start-on : (k : Does) → Keeps k → Keeps (startWith net proposer k)
-  unfolding startWith
-  start-on k h c td p e =
-      let r : removeInvalidShares td p .state .ciphertext ≡ c = remove-keeps (λ s. s .ciphertext ≡ c) (λ s l n. n) 16 0 td p e in
-      ends-cond (Has c) (td .«had_input») _ _ e
-      (ends-cond (Has c) (eqb (td .ciphertext) 0) _ _ e
-      (ends-onward (Has c) (removeInvalidShares td p) _ (λ _. r) (λ m _. r) (λ _ _. own-keeps k h c _ _ r)))
-
-  combine-keeps : Keeps (combine)
-  unfolding combine
-  combine-keeps c td p e = ends-heard (Has c) (ask p 12) td _ e (λ a b q. ends-cond (Has c) (eqb a 0) _ _ e e)
-
-  try-on : (k : Does) → Keeps k → Keeps (tryWith net k)
-  unfolding tryWith
-  try-on k h c td p e =
-      let r : k (withEnd td) p .state .ciphertext ≡ c = h c (withEnd td) p e in
-      ends-cond (Has c) (td .terminated) _ _ e
-      (ends-cond (Has c) (leb (countShares (td .shares)) (net .«num_faulty»)) _ _ e
-      (ends-cond (Has c) (eqb (td .ciphertext) 0) _ _ e
-      (ends-onward (Has c) (k (withEnd td) p) _ (λ _. r) (λ m _. r) (λ _ _. combine-keeps c _ _ r))))
-
+module _ (net : NetworkInfo) (proposer : ℕ) where
   pub start-keeps : (td : ThresholdDecrypt) (p : Tape) → startDecryption net proposer td p .state .ciphertext ≡ td .ciphertext
-  unfolding startDecryption
-  start-keeps td p = start-on _ (try-on _ (λ c td p e. e)) _ td p refl
+  start-keeps td p = start-walk anything (holding (Has (td .ciphertext))) net proposer (still (td .ciphertext)) 0 td p refl
 
   pub try-keeps : (td : ThresholdDecrypt) (p : Tape) → tryOutput net proposer td p .state .ciphertext ≡ td .ciphertext
-  unfolding tryOutput
-  try-keeps td p = try-on _ (start-on _ (λ c td p e. e)) _ td p refl
+  try-keeps td p = try-walk anything (holding (Has (td .ciphertext))) net proposer (still (td .ciphertext)) 0 td p refl
 
   pub store-keeps : (sender share : ℕ) (td : ThresholdDecrypt) (p : Tape) → storeShare net proposer sender share td p .state .ciphertext ≡ td .ciphertext
-  unfolding storeShare
-  store-keeps sender share td p = ends-cond (Has (td .ciphertext)) (isSender td sender) _ _ refl (try-keeps _ p)
+  store-keeps sender share td p = store-walk anything (holding (Has (td .ciphertext))) net proposer (still (td .ciphertext)) sender share tt 0 td p refl
 
   pub handle-keeps : (sender share : ℕ) (td : ThresholdDecrypt) (p : Tape) → handleMessage net proposer sender share td p .state .ciphertext ≡ td .ciphertext
-  unfolding handleMessage
-  handle-keeps sender share td p =
-      let H = Has (td .ciphertext) in
-      let k = valid-keeps (λ s. s .ciphertext ≡ td .ciphertext) (λ s l n. n) sender td p refl in
-      ends-cond H (td .terminated) _ _ refl
-      (ends-onward H (isShareValid sender td p) _ (λ _. k) (λ m _. k) (λ valid _. ends-cond H (not valid) _ _ k (store-keeps sender share _ _ ∙ k)))
+  handle-keeps sender share td p = handle-walk anything (holding (Has (td .ciphertext))) net proposer (still (td .ciphertext)) sender share tt 0 td p refl
 
 -- A DUPLICATE SHARE COMBINES NOTHING. It overwrites the first and is fault 6, and nothing is asked but whether it is valid
 module _ (net : NetworkInfo) (proposer sender share : ℕ) (td : ThresholdDecrypt) (p : Tape) (e : td .terminated ≡ false) (s : isSender td sender ≡ true) where
@@ -128,94 +101,31 @@ module _ (net : NetworkInfo) (proposer sender share : ℕ) (td : ThresholdDecryp
       handle-valid net proposer sender share td p Valid q (sym (valid-told sender td p _ q k z a b refl ∙ rw (ne-eqb _ _ y))) e refl
       ∙ store-again net proposer sender share td q (eqb-false _ _ (not-true _ s))
 
--- 24 AND 25 ARE THE ONLY FAILURES. A run that fails fails with n
-abbrev Fails : {A : Type 0} → ℕ → ThresholdDecrypt → Verdict A → Type 0
-Fails n td v = (m : ℕ) → v ≡ failed m → m ≡ n
+-- 24 AND 25 ARE THE ONLY FAILURES, 25 of setting a ciphertext, 24 of the others. Checking shares fails with no number
+abbrev checking : (ok : ℕ → Bool) → Checks (numbers ok) (failing ok ThresholdDecrypt)
+checking ok = record { reads = λ k e. tt; faults = λ k a e. tt; share = λ td i v u. tt; removed = λ td i. tt }
 
-fails-going : {A : Type 0} (n : ℕ) (a : A) (m : ℕ) → going a ≡ failed m → m ≡ n
-fails-going n a m e = cc
-
-fails-refused : {A : Type 0} (n m : ℕ) → _≡_ {A = Verdict A} refused (failed m) → m ≡ n
-fails-refused n m e = cc
-
-fails-failed : {A : Type 0} (n m : ℕ) → _≡_ {A = Verdict A} (failed n) (failed m) → m ≡ n
-fails-failed n m e = cc
+pub rules : (ok : ℕ → Bool) → ok 24 ≡ true → Combines (numbers ok) (failing ok ThresholdDecrypt)
+rules ok e = record { checks = checking ok; sends = λ a b. tt; number = e; input = λ td. tt; end = λ td. tt }
 
 pub set-fails : (proposer ciphertext : ℕ) (td : ThresholdDecrypt) (p : Tape) (m : ℕ) → setCiphertext proposer ciphertext td p .verdict ≡ failed m → m ≡ 25
-unfolding setCiphertext
-set-fails proposer ciphertext td p =
-    ends-cond (Fails 25) (isSome (td .ciphertext)) _ _ (fails-failed 25)
-    (ends-heard (Fails 25) (askAbout p 9 proposer) td _ (fails-refused 25) (λ a b q. ends-cond (Fails 25) (eqb a 0) _ _ (fails-going 25 false) (fails-going 25 true)))
-
--- checking shares fails with no number
-valid-fails : (n i : ℕ) (td : ThresholdDecrypt) (p : Tape) → Ends (Fails n) (isShareValid i td p)
-unfolding isShareValid
-valid-fails n i td p =
-    ends-cond (Fails n) (eqb (td .ciphertext) 0) _ _ (fails-going n true)
-    (ends-heard (Fails n) (askAbout p 10 i) td _ (fails-refused n) (λ a b q. fails-going n (not (eqb a 0))))
-
-check-fails : (n i : ℕ) (td : ThresholdDecrypt) (p : Tape) → Ends (Fails n) (checkShare i td p)
-unfolding checkShare
-check-fails n i td p =
-    ends-cond (Fails n) (isSender td i) _ _
-    (ends-onward (Fails n) (isShareValid i td p) _ (λ e. fails-refused n) (λ m e w f. fails-failed m w f ∙ valid-fails n i td p m e) (λ valid e. ends-cond (Fails n) (not valid) _ _ (fails-going n tt) (fails-going n tt)))
-    (fails-going n tt)
-
-from-fails : (n i : ℕ) (td : ThresholdDecrypt) (p : Tape) (c : ℕ) → Ends (Fails c) (removeFrom n i td p)
-unfolding removeFrom
-from-fails zero i td p c = fails-going c tt
-from-fails (suc n) i td p c =
-    ends-onward (Fails c) (checkShare i td p) _ (λ e. fails-refused c) (λ m e w f. cc (check-fails c i td p m e)) (λ _ e. from-fails n (i + 1) _ _ c)
+set-fails proposer ciphertext td p m e = eqb-true m 25 (only-number (λ n. eqb n 25) _ m (set-walk _ (failing (λ n. eqb n 25) ThresholdDecrypt) proposer ciphertext tt refl (λ td. tt) 0 td p) e)
 
 pub remove-fails : (td : ThresholdDecrypt) (p : Tape) (m : ℕ) → removeInvalidShares td p .verdict ≡ failed m → ⊥
-remove-fails td p m e = omega (arith, from-fails 16 0 td p 0 m e, from-fails 16 0 td p 1 m e)
+remove-fails td p m e = false≢true (only-number (λ n. false) _ m (remove-walk _ (failing (λ n. false) ThresholdDecrypt) (checking (λ n. false)) 16 0 0 td p) e)
 
 module _ (net : NetworkInfo) (proposer : ℕ) where
-  -- an operation that fails with 24 only
-  abbrev Fails24 : Does → Type 0
-  Fails24 k = (td : ThresholdDecrypt) (p : Tape) (m : ℕ) → k td p .verdict ≡ failed m → m ≡ 24
-
-  own-fails : (k : Does) → Fails24 k → Fails24 (ownShare net proposer k)
-  unfolding ownShare
-  own-fails k h td p =
-      ends-cond (Fails 24) (isValidator net && net .«has_key») _ _
-      (ends-heard (Fails 24) (ask p 11) td _ (fails-refused 24) (λ a b q. h _ q))
-      (h td p)
-
-  start-with : (k : Does) → Fails24 k → Fails24 (startWith net proposer k)
-  unfolding startWith
-  start-with k h td p =
-      ends-cond (Fails 24) (td .«had_input») _ _ (fails-going 24 none)
-      (ends-cond (Fails 24) (eqb (td .ciphertext) 0) _ _ (fails-failed 24)
-      (ends-onward (Fails 24) (removeInvalidShares td p) _ (λ e. fails-refused 24) (λ m e. absurd (remove-fails td p m e)) (λ _ e. own-fails k h _ _)))
-
-  combine-fails : Fails24 (combine)
-  unfolding combine
-  combine-fails td p = ends-heard (Fails 24) (ask p 12) td _ (fails-refused 24) (λ a b q. ends-cond (Fails 24) (eqb a 0) _ _ (fails-failed 24) (fails-going 24 (some b)))
-
-  try-with : (k : Does) → Fails24 k → Fails24 (tryWith net k)
-  unfolding tryWith
-  try-with k h td p =
-      ends-cond (Fails 24) (td .terminated) _ _ (fails-going 24 none)
-      (ends-cond (Fails 24) (leb (countShares (td .shares)) (net .«num_faulty»)) _ _ (fails-going 24 none)
-      (ends-cond (Fails 24) (eqb (td .ciphertext) 0) _ _ (fails-going 24 none)
-      (ends-onward (Fails 24) (k (withEnd td) p) _ (λ e. fails-refused 24) (λ m e w f. cc (h (withEnd td) p m e)) (λ _ e. combine-fails _ _))))
+  abbrev is24 : ℕ → Bool
+  is24 n = eqb n 24
 
   pub start-fails : (td : ThresholdDecrypt) (p : Tape) (m : ℕ) → startDecryption net proposer td p .verdict ≡ failed m → m ≡ 24
-  unfolding startDecryption
-  start-fails td p = start-with _ (try-with _ (λ td p. fails-going 24 none)) td p
+  start-fails td p m e = eqb-true m 24 (only-number is24 _ m (start-walk _ (failing is24 ThresholdDecrypt) net proposer (rules is24 refl) 0 td p) e)
 
   pub try-fails : (td : ThresholdDecrypt) (p : Tape) (m : ℕ) → tryOutput net proposer td p .verdict ≡ failed m → m ≡ 24
-  unfolding tryOutput
-  try-fails td p = try-with _ (start-with _ (λ td p. fails-going 24 none)) td p
+  try-fails td p m e = eqb-true m 24 (only-number is24 _ m (try-walk _ (failing is24 ThresholdDecrypt) net proposer (rules is24 refl) 0 td p) e)
 
   pub store-fails : (sender share : ℕ) (td : ThresholdDecrypt) (p : Tape) (m : ℕ) → storeShare net proposer sender share td p .verdict ≡ failed m → m ≡ 24
-  unfolding storeShare
-  store-fails sender share td p = ends-cond (Fails 24) (isSender td sender) _ _ (fails-going 24 none) (try-fails _ p)
+  store-fails sender share td p m e = eqb-true m 24 (only-number is24 _ m (store-walk _ (failing is24 ThresholdDecrypt) net proposer (rules is24 refl) sender share tt 0 td p) e)
 
   pub handle-fails : (sender share : ℕ) (td : ThresholdDecrypt) (p : Tape) (m : ℕ) → handleMessage net proposer sender share td p .verdict ≡ failed m → m ≡ 24
-  unfolding handleMessage
-  handle-fails sender share td p =
-      ends-cond (Fails 24) (td .terminated) _ _ (fails-going 24 none)
-      (ends-onward (Fails 24) (isShareValid sender td p) _ (λ e. fails-refused 24) (λ m e w f. fails-failed m w f ∙ valid-fails 24 sender td p m e)
-      (λ valid e. ends-cond (Fails 24) (not valid) _ _ (fails-going 24 none) (store-fails sender share _ _)))
+  handle-fails sender share td p m e = eqb-true m 24 (only-number is24 _ m (handle-walk _ (failing is24 ThresholdDecrypt) net proposer (rules is24 refl) sender share tt 0 td p) e)

@@ -3,6 +3,7 @@ pub mod Ends
 pub mod Laws
 pub mod Cycle
 pub mod Messages
+pub mod Walk
 pub mod Reading
 pub mod Errors
 pub mod Ranges

@@ -1,18 +1,15 @@
 -- Threshold decryption keeps its ciphertext and shares below 2^32, and so is a plaintext. Assumes nothing.
-use Prim.Native.Nat.{ℕ, zero, suc, _+_, _<_}
+use Prim.Native.Nat.{ℕ, _<_}
 use mathlib.Core.Path.{refl}
-use mathlib.Core.Bool.{_&&_, not}
 use native.Mathlib.Omega.{arith}
 use lib.ListN.{set}
-use lib.Dec.{leb, eqb}
 use Rattle.steps.specs.declared.network_info.NetworkInfo.{NetworkInfo}
-use Rattle.steps.specs.Network.{isValidator}
 use Rattle.steps.specs.Answers.{Tape}
 use Rattle.steps.specs.Runs.{Run}
-use Rattle.steps.proofs.Ranges.{AllSmall, Kept, Any, SmallOption, kept-going, kept-failed, kept-before, kept-cond, kept-ask, kept-about, kept-onward, Below, below-set, below-zeros}
-use Rattle.decryption.specs.Decrypt.{new, withShares, withInput, withEnd, isSome, isSender, countShares, setCiphertext, isShareValid, checkShare, removeFrom, ownShare, startWith, combine, tryWith, startDecryption, tryOutput, storeShare, handleMessage}
+use Rattle.steps.proofs.Ranges.{AllSmall, Kept, Any, SmallOption, kept-any, small, keeping, within-below, Below, below-set, below-zeros}
+use Rattle.decryption.specs.Decrypt.{new, withCiphertext, withShares, withInput, withEnd, setCiphertext, startDecryption, tryOutput, storeShare, handleMessage}
 use Rattle.decryption.specs.declared.ThresholdDecrypt.{ThresholdDecrypt}
-use Rattle.decryption.proofs.Cycle.{Does}
+use Rattle.decryption.proofs.Walk.{Combines, set-keeps, start-keeps, try-keeps, store-keeps, handle-keeps}
 
 -- a handle, or 0 for none, at every place
 abbrev pub handles : ℕ → ℕ
@@ -39,79 +36,42 @@ input-ok td h = record { ciphertext = h .ciphertext; shares = h .shares }
 end-ok : (td : ThresholdDecrypt) → InstanceOk td → InstanceOk (withEnd td)
 end-ok td h = record { ciphertext = h .ciphertext; shares = h .shares }
 
+set-ok : (td : ThresholdDecrypt) (c : ℕ) → InstanceOk td → c < 0x1_0000_0000 → InstanceOk (withCiphertext td c)
+set-ok td c h l = record { ciphertext = l; shares = h .shares }
+
+pub rules : (n : ℕ) → Combines (small n) (keeping n InstanceOk)
+unfolding SmallOption
+rules n = record {
+  checks = record {
+    reads = λ k e. within-below 9 11 16 k (omega arith) e;
+    faults = λ k a e. tt;
+    share = λ td i v l h u. (share-ok td i v h l, tt);
+    removed = λ td i h u. (share-ok td i 0 h (omega arith), tt);
+  };
+  sends = λ a b. tt;
+  number = tt;
+  input = λ td h u. (input-ok td h, tt);
+  end = λ td h u. (end-ok td h, tt);
+}
+
 pub set-safe : (proposer ciphertext : ℕ) → ciphertext < 0x1_0000_0000 → Safe Any (setCiphertext proposer ciphertext)
-unfolding setCiphertext
-set-safe proposer ciphertext l td p h o =
-    kept-cond (isSome (td .ciphertext)) _ _ (λ _. kept-failed h o)
-    (λ _. kept-about p 9 proposer td _ refl h o (λ a b q _ o.
-    kept-cond (eqb a 0) _ _ (λ _. kept-going h o tt) (λ _. kept-going (record { ciphertext = l; shares = h .shares }) o tt)))
-
-valid-safe : (i : ℕ) → Safe Any (isShareValid i)
-unfolding isShareValid
-valid-safe i td p h o =
-    kept-cond (eqb (td .ciphertext) 0) _ _ (λ _. kept-going h o tt)
-    (λ _. kept-about p 10 i td _ refl h o (λ a b q _ o. kept-going h o tt))
-
-check-safe : (i : ℕ) → Safe Any (checkShare i)
-unfolding checkShare
-check-safe i td p h o =
-    kept-cond (isSender td i) _ _
-    (λ _. kept-onward _ _ (valid-safe i td p h o) (λ valid td q h o _.
-    kept-cond (not valid) _ _
-    (λ _. kept-before (kept-going (share-ok td i 0 h (omega arith)) o tt))
-    (λ _. kept-going h o tt)))
-    (λ _. kept-going h o tt)
-
-remove-safe : (n i : ℕ) → Safe Any (removeFrom n i)
-unfolding removeFrom
-remove-safe zero i td p h o = kept-going h o tt
-remove-safe (suc n) i td p h o = kept-onward _ _ (check-safe i td p h o) (λ _ td q h o _. remove-safe n (i + 1) td q h o)
+unfolding SmallOption
+set-safe proposer ciphertext l td p h o = kept-any (set-keeps (small 0) (keeping 0 InstanceOk) proposer ciphertext refl tt (λ td h u. (set-ok td ciphertext h l, tt)) 0 td p h o tt)
 
 module _ (net : NetworkInfo) (proposer : ℕ) where
-  own-safe : (k : Does) → Safe SmallOption k → Safe SmallOption (ownShare net proposer k)
-  unfolding ownShare
-  own-safe k s td p h o =
-      kept-cond (isValidator net && net .«has_key») _ _
-      (λ _. kept-ask p 11 td _ refl h o (λ a b q l o. kept-before (s _ q (share-ok td (net .«our_id») b h l) o)))
-      (λ _. s td p h o)
-
-  with-start : (k : Does) → Safe SmallOption k → Safe SmallOption (startWith net proposer k)
-  unfolding startWith SmallOption
-  with-start k s td p h o =
-      kept-cond (td .«had_input») _ _ (λ _. kept-going h o tt)
-      (λ _. kept-cond (eqb (td .ciphertext) 0) _ _ (λ _. kept-failed h o)
-      (λ _. kept-onward _ _ (remove-safe 16 0 td p h o) (λ _ td q h o _. own-safe k s (withInput td) q (input-ok td h) o)))
-
-  combine-safe : Safe SmallOption (combine)
-  unfolding combine SmallOption
-  combine-safe td p h o = kept-ask p 12 td _ refl h o (λ a b q l o. kept-cond (eqb a 0) _ _ (λ _. kept-failed h o) (λ _. kept-going h o l))
-
-  with-try : (k : Does) → Safe SmallOption k → Safe SmallOption (tryWith net k)
-  unfolding tryWith SmallOption
-  with-try k s td p h o =
-      kept-cond (td .terminated) _ _ (λ _. kept-going h o tt)
-      (λ _. kept-cond (leb (countShares (td .shares)) (net .«num_faulty»)) _ _ (λ _. kept-going h o tt)
-      (λ _. kept-cond (eqb (td .ciphertext) 0) _ _ (λ _. kept-going h o tt)
-      (λ _. kept-onward _ _ (s (withEnd td) p (end-ok td h) o) (λ _ td q h o _. combine-safe td q h o))))
-
   pub start-safe : Safe SmallOption (startDecryption net proposer)
-  unfolding startDecryption SmallOption
-  start-safe td p h o = with-start _ (with-try _ (λ td p h o. kept-going h o tt)) td p h o
+  unfolding SmallOption
+  start-safe td p h o = start-keeps (small 0) (keeping 0 InstanceOk) net proposer (rules 0) 0 td p h o tt
 
   pub try-safe : Safe SmallOption (tryOutput net proposer)
-  unfolding tryOutput SmallOption
-  try-safe td p h o = with-try _ (with-start _ (λ td p h o. kept-going h o tt)) td p h o
+  unfolding SmallOption
+  try-safe td p h o = try-keeps (small 0) (keeping 0 InstanceOk) net proposer (rules 0) 0 td p h o tt
 
   pub store-safe : (sender share : ℕ) → share < 0x1_0000_0000 → Safe SmallOption (storeShare net proposer sender share)
-  unfolding storeShare SmallOption
-  store-safe sender share l td p h o =
-      let k = share-ok td sender share h l in
-      kept-cond (isSender td sender) _ _ (λ _. kept-before (kept-going k o tt)) (λ _. try-safe _ p k o)
+  unfolding SmallOption
+  store-safe sender share l td p h o = store-keeps (small 0) (keeping 0 InstanceOk) net proposer (rules 0) sender share l 0 td p h o tt
 
   -- a share message
   pub handle-safe : (sender share : ℕ) → share < 0x1_0000_0000 → Safe SmallOption (handleMessage net proposer sender share)
-  unfolding handleMessage SmallOption
-  handle-safe sender share l td p h o =
-      kept-cond (td .terminated) _ _ (λ _. kept-going h o tt)
-      (λ _. kept-onward _ _ (valid-safe sender td p h o) (λ valid td q h o _.
-      kept-cond (not valid) _ _ (λ _. kept-before (kept-going h o tt)) (λ _. store-safe sender share l td q h o)))
+  unfolding SmallOption
+  handle-safe sender share l td p h o = handle-keeps (small 0) (keeping 0 InstanceOk) net proposer (rules 0) sender share l 0 td p h o tt

@@ -4,6 +4,7 @@ use mathlib.Core.Path.{_≡_, refl}
 use mathlib.Core.Logic.{_⊎_, inl, inr}
 use mathlib.Core.List.{List, [], _∷_}
 use mathlib.Core.Bool.{Bool, true, false, cond, _&&_, false≢true}
+use mathlib.Core.Option.{Option, none, some}
 use native.Mathlib.Omega.{arith}
 use lib.ListN.{length, getD, length-append}
 use lib.Dec.{eqb, ltb}
@@ -21,6 +22,7 @@ use Rattle.steps.specs.Parts.{isPart, messageKind, faultKind, partEntrie
 use Rattle.steps.proofs.Laws.{and-true, on-bounds, link-up, link-end}
 use Rattle.steps.proofs.Parts.{parts-on, parts-off}
 use Rattle.steps.proofs.Ranges.{by-test}
+use Rattle.steps.proofs.Logic.{Hand, hand, given, anything, Logic}
 
 -- a run from tape p that writes at most one entry for each record it reads, and `more` besides
 pub record Bounded {S A : Type 0} (more : ℕ) (p : Tape) (r : Run S A) : Type 0 where
@@ -106,6 +108,62 @@ bounded-onward more p r k h f = bounded-wider (0 + more) more p _ (omega arith) 
 pub bounded-inside : {S T A : Type 0} {more : ℕ} {p : Tape} (put : T → S) (r : Run T A) → Bounded more p r → Bounded more p (inside put r)
 bounded-inside put r b = record { short = b .short }
 
+-- AS A LOGIC OF RUNS, in which a value leaves some of the entries to what comes after it
+unfoldable pub left : {A : Type 0} → (A → Hand) → Verdict A → ℕ
+left f (going a) = f a .entries
+left f refused = 0
+left f (failed n) = 0
+
+pub record Spends {S A : Type 0} (f : A → Hand) (h : Hand) (p : Tape) (r : Run S A) : Type 0 where
+  pub spent : length (r .log) + length (r .tape .rest) + left f (r .verdict) ≤ length (p .rest) + h .entries
+
+pub spends-bounded : {S A : Type 0} (f : A → Hand) (h : Hand) (p : Tape) (r : Run S A) → Spends f h p r → Bounded (h .entries) p r
+spends-bounded f h p r b = record { short = omega (arith, b .spent) }
+
+spends-for : {S A : Type 0} (f : A → Hand) (x y : Option ℕ) (n : ℕ) (want : Rec → Bool) (s : S) (p : Tape) (k : ℕ → ℕ → Tape → Run S A)
+    → ((a b : ℕ) (q : Tape) → Spends f (hand y (n + 1)) q (k a b q)) → Spends f (hand x n) p (heard (askFor want p (p .rest)) s k)
+unfolding heard heardAs left
+spends-for {A = A} f x y n want s p k g = go (askFor want p (p .rest)) (for-fewer want p)
+  where
+    go : (q : Asked) → Fewer p q → Spends f (hand x n) p (heardAs (q .answer) s (q .tape) k)
+    go q u = by (q .answer) refl
+      where
+        by : (z : Answer) → q .answer ≡ z → Spends f (hand x n) p (heardAs z s (q .tape) k)
+        by (Got a b) e = record { spent = omega (arith, g a b (q .tape) .spent, u .got a b e) }
+        by Refused e = record { spent = omega (arith, u .left) }
+
+pub spends-onward : {S A B : Type 0} (f : A → Hand) (g : B → Hand) (h : Hand) (p : Tape) (r : Run S A) (k : A → S → Tape → Run S B) → Spends f h p r
+    → ((a : A) (s : S) (q : Tape) → Spends g (f a) q (k a s q)) → Spends g h p (onward r k)
+unfolding onward onwardAs left
+spends-onward {A = A} f g h p r k b m = go (r .verdict) (b .spent)
+  where
+    go : (v : Verdict A) → length (r .log) + length (r .tape .rest) + left f v ≤ length (p .rest) + h .entries → Spends g h p (onwardAs v r k)
+    go (going a) l =
+        let u = k a (r .state) (r .tape) in
+        record { spent = omega (arith, m a (r .state) (r .tape) .spent, length-append (r .log) (u .log)) }
+    go refused l = record { spent = omega arith }
+    go (failed n) l = record { spent = omega arith }
+
+module _ {S A : Type 0} (f : A → Hand) where
+  pub spends-going : (h : Hand) (a : A) (s : S) (p : Tape) → f a .entries ≤ h .entries → Spends f h p (ends (going a) s p)
+  unfolding left
+  spends-going h a s p l = record { spent = omega arith }
+
+  pub spends-failed : (h : Hand) (n : ℕ) (s : S) (p : Tape) → Spends f h p (ends (failed n) s p)
+  unfolding left
+  spends-failed h n s p = record { spent = omega arith }
+
+  pub spends-one : (x : Option ℕ) (n : ℕ) (e : Entry) (p : Tape) (r : Run S A) → Spends f (hand x n) p r → Spends f (hand x (n + 1)) p (before (e ∷ []) r)
+  spends-one x n e p r g = record { spent = omega (arith, g .spent) }
+
+  pub spends-ask : (x y : Option ℕ) (n kind : ℕ) (s : S) (p : Tape) (k : ℕ → ℕ → Tape → Run S A) → ((a b : ℕ) (q : Tape) → Spends f (hand y (n + 1)) q (k a b q)) → Spends f (hand x n) p (heard (ask p kind) s k)
+  unfolding ask
+  spends-ask x y n kind s p k g = spends-for f x y n (λ r. eqb (r .kind) kind) s p k g
+
+  pub spends-about : (x : Option ℕ) (n kind who : ℕ) (s : S) (p : Tape) (k : ℕ → ℕ → Tape → Run S A) → ((a b : ℕ) (q : Tape) → Spends f (hand x (n + 1)) q (k a b q)) → Spends f (hand x n) p (heard (askAbout p kind who) s k)
+  unfolding askAbout
+  spends-about x n kind who s p k g = spends-for f x x n (λ r. eqb (r .kind) kind && eqb (r .b) who) s p k g
+
 -- THE PARTS of an answer: a part is one entry or none
 part-one : (content : Content) (proposer kind a b : ℕ) → length (partEntries content proposer kind a b) ≤ 1
 unfolding partEntries
@@ -134,6 +192,25 @@ module _ (content : Content) (proposer : ℕ) where
 
   pub bounded-parts : {S : Type 0} (s : S) (p : Tape) → Bounded 0 p (readParts content proposer s p)
   bounded-parts s p = record { short = omega (arith, parts-few Missing (p .place) (p .rest)) }
+
+  pub spends-parts : {S : Type 0} (n : ℕ) (s : S) (p : Tape) → Spends (λ o. hand (given o) 0) (hand none n) p (readParts content proposer s p)
+  unfolding left
+  spends-parts n s p = record { spent = omega (arith, parts-few Missing (p .place) (p .rest)) }
+
+abbrev pub counting : (S : Type 0) → Logic anything S
+counting S = record {
+  Good = λ A f h s p r. Spends f h p r;
+  Step = λ x s y t. Unit {0};
+  steps = λ A f x y n s t p r e g. record { spent = g .spent };
+  goes = λ A f h a s p e l. spends-going f h a s p l;
+  fails = λ A f h n s p e. spends-failed f h n s p;
+  writes = λ A f x n e s p r w g. spends-one f x n e p r g;
+  asks = λ A f x n kind s p k e g. spends-ask f x x n kind s p k (λ a b q. g a b q tt);
+  asksAbout = λ A f x n kind who s p k e g. spends-about f x n kind who s p k g;
+  asksText = λ A f n s p k g. spends-ask f none none n 12 s p k (λ a b q. record { spent = g a b q tt .spent });
+  parts = λ content proposer n s p e. spends-parts content proposer n s p;
+  goesOn = λ A B f g h s p r k b m. spends-onward f g h p r k b m;
+}
 
 -- THE CHAIN OF A TABLE. Its indexes rise from above 0, so that it has fewer records than the table
 walk-short : (n : ℕ) (t : List ℕ) (i j : ℕ) → (i ≡ 0) ⊎ (j < i) → j < length t / 4 → length (walk n t i) + suc j ≤ length t / 4

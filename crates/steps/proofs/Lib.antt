@@ -1,5 +1,6 @@
 -- What is proved of the definitions, for this crate's proofs and for those above it.
 pub mod Laws
+pub mod Logic
 pub mod Runs
 pub mod RunLaws
 pub mod After
@@ -16,3 +17,5 @@ pub mod Read13
 pub mod Ranges
 pub mod BitLaws
 pub mod Bounded
+pub mod Fails
+pub mod States

@@ -8,7 +8,7 @@ use native.Mathlib.Omega.{arith}
 use lib.ListN.{length, getD, set, replicate, length-set, length-replicate}
 use lib.Seq.{getD-set-same, getD-set-other, set-out}
 use lib.Dec.{eqb, leb, ltb}
-use borrow.Author.Tests.{eqb-true, eqb-false, leb-true, ltb-true, ltb-false}
+use borrow.Author.Tests.{eqb-true, eqb-false, ne-eqb, leb-true, ltb-true, ltb-false}
 use Rattle.steps.specs.declared.reader.Answer.{Answer}
 use Rattle.steps.specs.declared.reader.Answer.the-variants.{Got, Refused}
 use Rattle.steps.specs.declared.reader.Content.{Content}
@@ -22,6 +22,7 @@ use Rattle.steps.specs.Parts.{isPart, outputOf, lastOf, lastOutput, part
 use Rattle.steps.proofs.Laws.{and-true, on-record, off-at-zero, link-up, link-end, chain-on, chain-off}
 use Rattle.steps.proofs.Parts.{parts-on, parts-off}
 use Rattle.steps.proofs.Chain.{follow-rule, follow-facts}
+use Rattle.steps.proofs.Logic.{given, Terms, Logic}
 
 -- A TEST that came out
 pub by-test : {P : Type 0} (x u v : Bool) → cond x u v ≡ true → (x ≡ true → u ≡ true → P) → (x ≡ false → v ≡ true → P) → P
@@ -191,13 +192,24 @@ pub kept-inside : {S T A : Type 0} {P : S → Type 0} {R : T → Type 0} {Q : A 
     → ((t : T) → R t → P (put t)) → Kept R Q r → Kept P Q (inside put r)
 kept-inside put r f k = record { state = f _ (k .state); tape = k .tape; value = k .value }
 
+-- a value that is handed up, if there is one, is below 2^32
+unfoldable pub SmallOption : Option ℕ → Type 0
+SmallOption none = Unit {0}
+SmallOption (some x) = x < 0x1_0000_0000
+
+pub kept-any : {S A : Type 0} {P : S → Type 0} {Q : A → Type 0} {r : Run S A} → Kept P Q r → Kept P Any r
+kept-any {r = r} k = record { state = k .state; tape = k .tape; value = says-any (r .verdict) }
+
+-- kinds below that of a message
+pub within-below : (lo hi m k : ℕ) → hi < m → within lo hi k ≡ true → eqb k m ≡ false
+within-below lo hi m k l e = ne-eqb k m (λ z. omega (arith, leb-true k hi (and-true (leb lo k) (leb k hi) e .1)))
+
 -- THE PARTS of an answer: an output is below 2^32
-unfoldable pub SmallOutput : Output → Type 0
-SmallOutput Missing = Unit {0}
-SmallOutput (Value v) = v < 0x1_0000_0000
+abbrev pub SmallOutput : Output → Type 0
+SmallOutput o = SmallOption (given o)
 
 last-small : (o : Output) (r : Rec) → Small r → SmallOutput o → SmallOutput (lastOutput o (r .kind) (r .b))
-unfolding lastOutput outputOf lastOf SmallOutput
+unfolding lastOutput outputOf lastOf SmallOption
 last-small o r h l = go (eqb (r .kind) 18) refl
   where
     go : (x : Bool) → eqb (r .kind) 18 ≡ x → SmallOutput (lastOf o (cond x (Value (r .b)) Missing))
@@ -218,13 +230,28 @@ module _ (content : Content) (proposer : ℕ) where
       go false e k = rw (parts-off content proposer o i r rs e) (h, u)
 
   pub kept-parts : {S : Type 0} {P : S → Type 0} (s : S) (p : Tape) → P s → AllSmall (p .rest) → Kept P SmallOutput (readParts content proposer s p)
-  unfolding Says SmallOutput
+  unfolding Says SmallOption
   kept-parts s p h o = let k = parts-small Missing (p .place) (p .rest) o tt in record { state = h; tape = k .0; value = k .1 }
 
--- a value that is handed up, if there is one, is below 2^32
-unfoldable pub SmallOption : Option ℕ → Type 0
-SmallOption none = Unit {0}
-SmallOption (some x) = x < 0x1_0000_0000
+-- AS A LOGIC OF RUNS among n nodes: whatever is asked for but messages
+abbrev pub small : ℕ → Terms
+small n = record { Kind = λ k. eqb k 16 ≡ false; Parts = Unit {0}; Writes = λ e. Unit {0}; Number = λ n. Unit {0}; Handle = λ b. b < 0x1_0000_0000; Index = λ i. i < n }
+
+abbrev pub keeping : {S : Type 0} (n : ℕ) → (S → Type 0) → Logic (small n) S
+unfolding SmallOption
+keeping n P = record {
+  Good = λ A f h s p r. P s → AllSmall (p .rest) → SmallOption (h .handle) → Kept P (λ a. SmallOption (f a .handle)) r;
+  Step = λ x s y t. P s → SmallOption x → P t × SmallOption y;
+  steps = λ A f x y n s t p r e g h o u. let v = e h u in g (v .0) o (v .1);
+  goes = λ A f h a s p e l k o u. kept-going k o (rw e u);
+  fails = λ A f h n s p e k o u. kept-failed k o;
+  writes = λ A f x n e s p r w g k o u. kept-before (g k o u);
+  asks = λ A f x n kind s p k e g h o u. kept-ask p kind s k e h o (λ a b q l o. g a b q l h o u);
+  asksAbout = λ A f x n kind who s p k e g h o u. kept-about p kind who s k e h o (λ a b q l o. g a b q h o u);
+  asksText = λ A f n s p k g h o u. kept-ask p 12 s k refl h o (λ a b q l o. g a b q l h o l);
+  parts = λ content proposer n s p e h o u. kept-parts content proposer s p h o;
+  goesOn = λ A B f g h s p r k l m i o u. kept-onward r k (l i o u) (λ a t q i o v. m a t q i o v);
+}
 
 -- WORDS BELOW THEIR LIMITS: as many as said, word i below the limit of place i
 pub record Below (limit : ℕ → ℕ) (size : ℕ) (w : List ℕ) : Type 0 where

@@ -1,6 +1,7 @@
 -- What is proved of the definitions, for this crate's proofs and for those above it.
 pub mod Counts
 pub mod Frames
+pub mod Walk
 pub mod Held
 pub mod Taken
 pub mod Calls

@@ -1,28 +1,27 @@
 -- The subset keeps each word of its epoch in range. Assumes nothing.
-use Prim.Native.Nat.{ℕ, zero, suc, _+_, _*_, _-_, _%_, _^_, _≤_, _<_}
+use Prim.Native.Nat.{ℕ, zero, suc, _+_, _*_, _-_, _%_, _^_, _<_}
 use mathlib.Core.Path.{_≡_, refl, _∙_}
 use mathlib.Core.List.{List, [], _∷_}
-use mathlib.Core.Bool.{Bool, true, false, cond, _||_}
+use mathlib.Core.Bool.{Bool, true, false, cond}
 use mathlib.Core.Option.{Option, none, some}
 use native.Mathlib.Omega.{arith}
 use native.Mathlib.Nat.{mul-add-mod-self-right, mod-eq-of-lt, two-pow-succ}
 use lib.ListN.{getD, set, List·getD-eq-default}
 use lib.Dec.{ltb, eqb}
 use borrow.Author.Tests.{le-ltb, lt-ltb, ltb-true}
-use Rattle.steps.specs.declared.reader.Content.the-variants.{Broadcast, Agreement}
 use Rattle.steps.specs.declared.reader.Content.{Content}
 use Rattle.steps.specs.declared.network_info.NetworkInfo.{NetworkInfo}
 use Rattle.steps.specs.declared.reader.Output.{Output}
 use Rattle.steps.specs.declared.reader.Output.the-variants.{Missing, Value}
-use Rattle.steps.specs.Network.{isValidator, numCorrect}
 use Rattle.steps.specs.Answers.{Tape}
 use Rattle.steps.specs.Runs.{Run}
-use Rattle.steps.proofs.Ranges.{AllSmall, Kept, Any, SmallOption, SmallOutput, kept-going, kept-failed, kept-cond, kept-about, kept-onward, kept-inside, kept-parts, Below, below-set}
+use Rattle.steps.proofs.Ranges.{AllSmall, Kept, Any, SmallOption, SmallOutput, kept-any, small, keeping, within-below, kept-inside, Below, below-set}
 use Rattle.proposal.specs.declared.ProposalState.{ProposalState}
 use Rattle.proposal.specs.declared.ProposalState.the-variants.{Ongoing, HasValue, Accepted, Complete}
-use Rattle.subset.specs.Words.{recordLength, epochLength, decidedAt, countAt, isDecided, recordAt, valueAt, arrivalAt, proposalOf, tagOf, valueOf, loadProposal, storeProposal, addContribution, dropFrom}
-use Rattle.proposal.specs.Proposal.{asksAgreement, asksBroadcast, Moved, afterAgreement, afterBroadcast, movedTo, instanceAnswer, answerAgreement, voteTrue, afterValue, answerBroadcast}
-use Rattle.subset.specs.Subset.{allComplete, countAccepted, contributed, atProposal, broadcastAt, agreementAt, voteFrom, votes, tryOutput, propose, handleMessage}
+use Rattle.subset.specs.Words.{recordLength, epochLength, decidedAt, countAt, recordAt, valueAt, arrivalAt, proposalOf, tagOf, valueOf, loadProposal, storeProposal, addContribution, dropFrom}
+use Rattle.proposal.specs.Proposal.{Moved, afterAgreement, afterBroadcast}
+use Rattle.subset.proofs.Walk.{Moves, Rules, try-keeps, propose-keeps, handle-keeps}
+use Rattle.subset.specs.Subset.{contributed, tryOutput, propose, handleMessage}
 
 -- THE LIMIT OF A PLACE, which its word is below. The epoch's own words: status, decided, accepted, count; the rest are 0
 abbrev pub ownLimit : ℕ → ℕ → ℕ
@@ -119,44 +118,13 @@ agreement-moves Accepted out h = record { state = tt; value = tt }
 agreement-moves (Complete b) out h = record { state = tt; value = tt }
 
 broadcast-moves : (s : ProposalState) (out : Output) → ProposalOk s → SmallOutput out → MovedOk (afterBroadcast s out)
-unfolding afterBroadcast ProposalOk SmallOption SmallOutput
+unfolding afterBroadcast ProposalOk SmallOption
 broadcast-moves Ongoing Missing h o = record { state = tt; value = tt }
 broadcast-moves Ongoing (Value v) h o = record { state = o; value = tt }
 broadcast-moves (HasValue v) out h o = record { state = h; value = tt }
 broadcast-moves Accepted Missing h o = record { state = tt; value = tt }
 broadcast-moves Accepted (Value v) h o = record { state = tt; value = o }
 broadcast-moves (Complete b) out h o = record { state = tt; value = tt }
-
--- a run of a proposal, and the value that it hands up
-abbrev pub SafeProposal : (ProposalState → Tape → Run ProposalState (Option ℕ)) → Type 0
-SafeProposal k = (s : ProposalState) (p : Tape) → ProposalOk s → AllSmall (p .rest) → Kept ProposalOk SmallOption (k s p)
-
-module _ (error proposer : ℕ) where
-  answer-safe : (kind : ℕ) (content : Content) → eqb kind 16 ≡ false → (s : ProposalState) (p : Tape) → ProposalOk s → AllSmall (p .rest)
-      → Kept ProposalOk SmallOutput (instanceAnswer error proposer kind content s p)
-  unfolding instanceAnswer
-  answer-safe kind content n s p h o =
-      kept-about p kind proposer s _ n h o (λ a b q _ o. kept-cond (eqb a 0) _ _ (λ _. kept-failed h o) (λ _. kept-parts content proposer s q h o))
-
-  moved-safe : (m : Moved) (p : Tape) → MovedOk m → AllSmall (p .rest) → Kept ProposalOk SmallOption (movedTo m p)
-  moved-safe m p h o = kept-going (h .state) o (h .value)
-
-  pub agreement-safe : (kind : ℕ) → eqb kind 16 ≡ false → SafeProposal (answerAgreement error proposer kind)
-  unfolding answerAgreement SmallOption
-  agreement-safe kind n s p h o =
-      kept-onward _ _ (answer-safe kind _ n s p h o) (λ out s q h o _. moved-safe _ q (agreement-moves s out h) o)
-
-  value-safe : (s : ProposalState) (out : Output) (p : Tape) → ProposalOk s → AllSmall (p .rest) → SmallOutput out → Kept ProposalOk SmallOption (afterValue error proposer s out p)
-  unfolding afterValue voteTrue
-  value-safe s Missing p h o u = moved-safe _ p (broadcast-moves s Missing h u) o
-  value-safe s (Value v) p h o u =
-      let m = broadcast-moves s (Value v) h u in
-      kept-cond (asksAgreement (afterBroadcast s (Value v) .state)) _ _ (λ _. agreement-safe 6 refl _ p (m .state) o) (λ _. moved-safe _ p m o)
-
-  pub broadcast-safe : (kind : ℕ) → eqb kind 16 ≡ false → SafeProposal (answerBroadcast error proposer kind)
-  unfolding answerBroadcast SmallOption
-  broadcast-safe kind n s p h o =
-      kept-onward _ _ (answer-safe kind _ n s p h o) (λ out s q h o u. value-safe s out q h o u)
 
 -- A PROPOSAL IN ITS TWO WORDS
 tag-below : (s : ProposalState) → tagOf s < 5
@@ -221,59 +189,37 @@ drop-ok n (suc m) i w l h =
 abbrev pub SafeEpoch : {A : Type 0} → ℕ → (List ℕ → Tape → Run (List ℕ) A) → Type 0
 SafeEpoch n k = (w : List ℕ) (p : Tape) → EpochOk n w → AllSmall (p .rest) → Kept (EpochOk n) Any (k w p)
 
+moves-ok : (n : ℕ) → Moves (small n) (keeping n ProposalOk) (keeping n (EpochOk n)) n
+unfolding SmallOption
+moves-ok n = record {
+  reads = λ k e. within-below 3 7 16 k (omega arith) e;
+  parts = tt;
+  agreed = λ s out h u. let m = agreement-moves s out h in (m .state, m .value);
+  came = λ s out h u. let m = broadcast-moves s out h u in (m .state, m .value);
+  voted = λ s out h u. (broadcast-moves s out h u .state, tt);
+}
+
+pub rules : (n : ℕ) → Rules (small n) (keeping n ProposalOk) (keeping n (EpochOk n)) n
+unfolding SmallOption limitAt
+rules n = record {
+  moves = moves-ok n;
+  index = λ p l. l;
+  stored = λ p m w t r i g h o u. kept-inside (storeProposal n w p) r (store-ok n w p h) (g (load-ok n w p h) o u);
+  added = λ p w x i h u. (contributed-ok n w p h x i u, tt);
+  decided = λ w h u. (set-own n w decidedAt 1 h (omega arith), tt);
+}
+
 module _ (net : NetworkInfo) (error : ℕ) where
-  at-safe : (p : ℕ) (w : List ℕ) (r : Run ProposalState (Option ℕ)) → p < net .«num_nodes» → EpochOk (net .«num_nodes») w → Kept ProposalOk SmallOption r
-      → Kept (EpochOk (net .«num_nodes»)) Any (atProposal net error p w r)
-  unfolding atProposal
-  at-safe p w r l h k =
-      kept-onward _ _ (kept-inside (storeProposal (net .«num_nodes») w p) r (store-ok (net .«num_nodes») w p h) k)
-      (λ value w q h o u. kept-going (contributed-ok (net .«num_nodes») w p h value l u) o tt)
-
-  broadcast-at-safe : (kind p : ℕ) → eqb kind 16 ≡ false → p < net .«num_nodes» → SafeEpoch (net .«num_nodes») (broadcastAt net error kind p)
-  unfolding broadcastAt
-  broadcast-at-safe kind p n l w tape h o =
-      kept-cond (asksBroadcast (loadProposal (net .«num_nodes») w p)) _ _
-      (λ _. at-safe p w _ l h (broadcast-safe error p kind n _ tape (load-ok (net .«num_nodes») w p h) o))
-      (λ _. kept-going h o tt)
-
-  agreement-at-safe : (kind p : ℕ) → eqb kind 16 ≡ false → p < net .«num_nodes» → SafeEpoch (net .«num_nodes») (agreementAt net error kind p)
-  unfolding agreementAt
-  agreement-at-safe kind p n l w tape h o =
-      kept-cond (asksAgreement (loadProposal (net .«num_nodes») w p)) _ _
-      (λ _. at-safe p w _ l h (agreement-safe error p kind n _ tape (load-ok (net .«num_nodes») w p h) o))
-      (λ _. kept-going h o tt)
-
-  vote-from-safe : (m i : ℕ) → m + i ≤ net .«num_nodes» → SafeEpoch (net .«num_nodes») (voteFrom net error m i)
-  unfolding voteFrom
-  vote-from-safe zero i l w p h o = kept-going h o tt
-  vote-from-safe (suc m) i l w p h o = kept-onward _ _ (agreement-at-safe 7 i refl (omega arith) w p h o) (λ _ w q h o _. vote-from-safe m (i + 1) (omega arith) w q h o)
-
-  votes-safe : SafeEpoch (net .«num_nodes») (votes net error)
-  unfolding votes
-  votes-safe w p h o =
-      kept-cond (eqb (countAccepted (net .«num_nodes») w) (numCorrect net)) _ _
-      (λ _. vote-from-safe (net .«num_nodes») 0 (omega arith) w p h o)
-      (λ _. kept-going h o tt)
-
   pub try-safe : SafeEpoch (net .«num_nodes») (tryOutput net error)
-  unfolding tryOutput limitAt
-  try-safe w p h o =
-      kept-cond (isDecided w || ltb (countAccepted (net .«num_nodes») w) (numCorrect net)) _ _ (λ _. kept-going h o tt)
-      (λ _. kept-onward _ _ (votes-safe w p h o) (λ _ w q h o _.
-      kept-cond (allComplete (net .«num_nodes») w) _ _
-      (λ _. kept-going (set-own (net .«num_nodes») w decidedAt 1 h (omega arith)) o tt)
-      (λ _. kept-going h o tt)))
+  unfolding SmallOption
+  try-safe w p h o = kept-any (try-keeps _ _ _ net (rules _) error tt 0 w p h o tt)
 
   -- the own proposal is broadcast
   pub propose-safe : SafeEpoch (net .«num_nodes») (propose net error)
-  unfolding propose
-  propose-safe w p h o =
-      kept-cond (isValidator net) _ _
-      (λ e. kept-onward _ _ (broadcast-at-safe 3 (net .«our_id») refl (ltb-true _ _ e) w p h o) (λ _ w q h o _. try-safe w q h o))
-      (λ _. kept-going h o tt)
+  unfolding SmallOption
+  propose-safe w p h o = kept-any (propose-keeps _ _ _ net (rules _) error tt 0 w p h o tt)
 
   -- a message for proposer p
   pub handle-safe : (content : Content) (p : ℕ) → p < net .«num_nodes» → SafeEpoch (net .«num_nodes») (handleMessage net error content p)
-  unfolding handleMessage
-  handle-safe Broadcast p l w tape h o = kept-onward _ _ (broadcast-at-safe 4 p refl l w tape h o) (λ _ w q h o _. try-safe w q h o)
-  handle-safe Agreement p l w tape h o = kept-onward _ _ (agreement-at-safe 5 p refl l w tape h o) (λ _ w q h o _. try-safe w q h o)
+  unfolding SmallOption
+  handle-safe content p l w tape h o = kept-any (handle-keeps _ _ _ net (rules _) error tt content p l 0 w tape h o tt)

@@ -1,0 +1,86 @@
+-- ONE LOGIC OF RUNS. A walk of a layer goes through its definitions once, for every property of runs that has the rules below; the theorems of
+-- that layer are instances. Assumes nothing.
+use Prim.Native.Nat.{ℕ, _+_, _≤_}
+use mathlib.Core.Path.{_≡_, refl}
+use mathlib.Core.List.{[], _∷_}
+use mathlib.Core.Bool.{Bool, true, false, cond}
+use mathlib.Core.Option.{Option, none, some}
+use native.Mathlib.Omega.{arith}
+use Rattle.steps.specs.declared.reader.Content.{Content}
+use Rattle.steps.specs.declared.reader.Output.{Output}
+use Rattle.steps.specs.declared.reader.Output.the-variants.{Missing, Value}
+use Rattle.steps.specs.Answers.{Tape, ask, askAbout}
+use Rattle.steps.specs.Steps.{Entry}
+use Rattle.steps.specs.Runs.{going, failed, Run, ends, before, onward, heard}
+use Rattle.steps.specs.Parts.{readParts}
+
+-- WHAT A RUN HAS IN HAND: a handle that it was told and has not stored, and how many entries it may write besides one for each answer to come
+pub record Hand : Type 0 where
+  pub handle : Option ℕ
+  pub entries : ℕ
+
+abbrev pub hand : Option ℕ → ℕ → Hand
+hand x n = record { handle = x; entries = n }
+
+-- a value that hands up nothing
+abbrev pub nothing : {A : Type 0} → A → Hand
+nothing a = hand none 0
+
+-- the output of an instance
+abbrev pub given : Output → Option ℕ
+given Missing = none
+given (Value v) = some v
+
+-- WHAT MAY BE READ (answers by their kinds, and whether parts), written and failed with, and what is known of a handle that was read and of the
+-- index of a node
+pub record Terms : Type 1 where
+  pub Kind : ℕ → Type 0
+  pub Parts : Type 0
+  pub Writes : Entry → Type 0
+  pub Number : ℕ → Type 0
+  pub Handle : ℕ → Type 0
+  pub Index : ℕ → Type 0
+
+-- a property for which these make no difference
+abbrev pub anything : Terms
+anything = record { Kind = λ k. Unit {0}; Parts = Unit {0}; Writes = λ e. Unit {0}; Number = λ n. Unit {0}; Handle = λ b. Unit {0}; Index = λ i. Unit {0} }
+
+-- THE RULES, for runs of the state S
+pub record Logic (T : Terms) (S : Type 0) : Type 1 where
+  -- what holds of a run that begins with a hand, a state and a tape, and has f a in hand where it goes on with a
+  pub Good : (A : Type 0) → (A → Hand) → Hand → S → Tape → Run S A → Type 0
+  -- a state with a handle may be left for another, and what then begins at the other began at the first
+  pub Step : Option ℕ → S → Option ℕ → S → Type 0
+  pub steps : (A : Type 0) (f : A → Hand) (x y : Option ℕ) (n : ℕ) (s t : S) (p : Tape) (r : Run S A) → Step x s y t → Good A f (hand y n) t p r → Good A f (hand x n) s p r
+  pub goes : (A : Type 0) (f : A → Hand) (h : Hand) (a : A) (s : S) (p : Tape) → f a .handle ≡ h .handle → f a .entries ≤ h .entries → Good A f h s p (ends (going a) s p)
+  pub fails : (A : Type 0) (f : A → Hand) (h : Hand) (n : ℕ) (s : S) (p : Tape) → T .Number n → Good A f h s p (ends (failed n) s p)
+  pub writes : (A : Type 0) (f : A → Hand) (x : Option ℕ) (n : ℕ) (e : Entry) (s : S) (p : Tape) (r : Run S A) → T .Writes e
+      → Good A f (hand x n) s p r → Good A f (hand x (n + 1)) s p (before (e ∷ []) r)
+  -- an answer allows one entry more; a 12 is the one whose handle is handed up
+  pub asks : (A : Type 0) (f : A → Hand) (x : Option ℕ) (n kind : ℕ) (s : S) (p : Tape) (k : ℕ → ℕ → Tape → Run S A) → T .Kind kind
+      → ((a b : ℕ) (q : Tape) → T .Handle b → Good A f (hand x (n + 1)) s q (k a b q)) → Good A f (hand x n) s p (heard (ask p kind) s k)
+  pub asksAbout : (A : Type 0) (f : A → Hand) (x : Option ℕ) (n kind who : ℕ) (s : S) (p : Tape) (k : ℕ → ℕ → Tape → Run S A) → T .Kind kind
+      → ((a b : ℕ) (q : Tape) → Good A f (hand x (n + 1)) s q (k a b q)) → Good A f (hand x n) s p (heard (askAbout p kind who) s k)
+  pub asksText : (A : Type 0) (f : A → Hand) (n : ℕ) (s : S) (p : Tape) (k : ℕ → ℕ → Tape → Run S A)
+      → ((a b : ℕ) (q : Tape) → T .Handle b → Good A f (hand (some b) (n + 1)) s q (k a b q)) → Good A f (hand none n) s p (heard (ask p 12) s k)
+  pub parts : (content : Content) (proposer n : ℕ) (s : S) (p : Tape) → T .Parts → Good Output (λ o. hand (given o) 0) (hand none n) s p (readParts content proposer s p)
+  -- Rust's `?`
+  pub goesOn : (A B : Type 0) (f : A → Hand) (g : B → Hand) (h : Hand) (s : S) (p : Tape) (r : Run S A) (k : A → S → Tape → Run S B)
+      → Good A f h s p r → ((a : A) (t : S) (q : Tape) → Good B g (f a) t q (k a t q)) → Good B g h s p (onward r k)
+
+-- by the two ways on from a test, for any property
+pub either : {R : Type 0} (G : R → Type 0) (x : Bool) (r s : R) → (x ≡ true → G r) → (x ≡ false → G s) → G (cond x r s)
+either G true r s f g = f refl
+either G false r s f g = g refl
+
+module _ {T : Terms} {S : Type 0} (L : Logic T S) where
+  -- a run that goes on and hands up nothing, from the state where it is or from one that may be left for it
+  pub here : {A : Type 0} {n : ℕ} (a : A) (s : S) (p : Tape) → L .Good A nothing (hand none n) s p (ends (going a) s p)
+  here a s p = L .goes _ nothing _ a s p refl (omega arith)
+
+  pub there : {A : Type 0} {n : ℕ} (a : A) (s t : S) (p : Tape) → L .Step none s none t → L .Good A nothing (hand none n) s p (ends (going a) t p)
+  there a s t p e = L .steps _ nothing none none _ s t p _ e (here a t p)
+
+  -- by a test
+  pub test : {A : Type 0} {f : A → Hand} {h : Hand} {s : S} {p : Tape} (x : Bool) {r t : Run S A} → (x ≡ true → L .Good A f h s p r) → (x ≡ false → L .Good A f h s p t) → L .Good A f h s p (cond x r t)
+  test x {r} {t} g k = either (L .Good _ _ _ _ _) x r t g k
