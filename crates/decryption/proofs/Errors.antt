@@ -69,10 +69,11 @@ module _ (c : ℕ) where
   abbrev Has : ThresholdDecrypt → Type 0
   Has td = td .ciphertext ≡ c
 
-  still : Combines anything (holding Has)
+  still : Combines anything (holding Has (λ i. Unit {0}))
   still = record {
     checks = record { reads = λ k e. tt; faults = λ k a e. tt; share = λ td i v u h. h; removed = λ td i h. h };
     sends = λ a b. tt;
+    text = tt;
     number = tt;
     input = λ td h. h;
     end = λ td h. h;
@@ -80,16 +81,16 @@ module _ (c : ℕ) where
 
 module _ (net : NetworkInfo) (proposer : ℕ) where
   pub start-keeps : (td : ThresholdDecrypt) (p : Tape) → startDecryption net proposer td p .state .ciphertext ≡ td .ciphertext
-  start-keeps td p = start-walk anything (holding (Has (td .ciphertext))) net proposer (still (td .ciphertext)) 0 td p refl
+  start-keeps td p = start-walk anything (holding (Has (td .ciphertext)) (λ i. Unit {0})) net proposer (still (td .ciphertext)) 0 td p refl
 
   pub try-keeps : (td : ThresholdDecrypt) (p : Tape) → tryOutput net proposer td p .state .ciphertext ≡ td .ciphertext
-  try-keeps td p = try-walk anything (holding (Has (td .ciphertext))) net proposer (still (td .ciphertext)) 0 td p refl
+  try-keeps td p = try-walk anything (holding (Has (td .ciphertext)) (λ i. Unit {0})) net proposer (still (td .ciphertext)) 0 td p refl
 
   pub store-keeps : (sender share : ℕ) (td : ThresholdDecrypt) (p : Tape) → storeShare net proposer sender share td p .state .ciphertext ≡ td .ciphertext
-  store-keeps sender share td p = store-walk anything (holding (Has (td .ciphertext))) net proposer (still (td .ciphertext)) sender share tt 0 td p refl
+  store-keeps sender share td p = store-walk anything (holding (Has (td .ciphertext)) (λ i. Unit {0})) net proposer (still (td .ciphertext)) sender share tt 0 td p refl
 
   pub handle-keeps : (sender share : ℕ) (td : ThresholdDecrypt) (p : Tape) → handleMessage net proposer sender share td p .state .ciphertext ≡ td .ciphertext
-  handle-keeps sender share td p = handle-walk anything (holding (Has (td .ciphertext))) net proposer (still (td .ciphertext)) sender share tt 0 td p refl
+  handle-keeps sender share td p = handle-walk anything (holding (Has (td .ciphertext)) (λ i. Unit {0})) net proposer (still (td .ciphertext)) sender share tt 0 td p refl
 
 -- A DUPLICATE SHARE COMBINES NOTHING. It overwrites the first and is fault 6, and nothing is asked but whether it is valid
 module _ (net : NetworkInfo) (proposer sender share : ℕ) (td : ThresholdDecrypt) (p : Tape) (e : td .terminated ≡ false) (s : isSender td sender ≡ true) where
@@ -106,7 +107,7 @@ abbrev checking : (ok : ℕ → Bool) → Checks (numbers ok) (failing ok Thresh
 checking ok = record { reads = λ k e. tt; faults = λ k a e. tt; share = λ td i v u. tt; removed = λ td i. tt }
 
 pub rules : (ok : ℕ → Bool) → ok 24 ≡ true → Combines (numbers ok) (failing ok ThresholdDecrypt)
-rules ok e = record { checks = checking ok; sends = λ a b. tt; number = e; input = λ td. tt; end = λ td. tt }
+rules ok e = record { checks = checking ok; sends = λ a b. tt; text = tt; number = e; input = λ td. tt; end = λ td. tt }
 
 pub set-fails : (proposer ciphertext : ℕ) (td : ThresholdDecrypt) (p : Tape) (m : ℕ) → setCiphertext proposer ciphertext td p .verdict ≡ failed m → m ≡ 25
 set-fails proposer ciphertext td p m e = eqb-true m 25 (only-number (λ n. eqb n 25) _ m (set-walk _ (failing (λ n. eqb n 25) ThresholdDecrypt) proposer ciphertext tt refl (λ td. tt) 0 td p) e)

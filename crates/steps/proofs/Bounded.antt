@@ -22,7 +22,7 @@ use Rattle.steps.specs.Parts.{isPart, messageKind, faultKind, partEntrie
 use Rattle.steps.proofs.Laws.{and-true, on-bounds, link-up, link-end}
 use Rattle.steps.proofs.Parts.{parts-on, parts-off}
 use Rattle.steps.proofs.Ranges.{by-test}
-use Rattle.steps.proofs.Logic.{Hand, hand, given, anything, Logic}
+use Rattle.steps.proofs.Logic.{Hand, hand, nothing, given, anything, Logic}
 
 -- a run from tape p that writes at most one entry for each record it reads, and `more` besides
 pub record Bounded {S A : Type 0} (more : ℕ) (p : Tape) (r : Run S A) : Type 0 where
@@ -197,6 +197,16 @@ module _ (content : Content) (proposer : ℕ) where
   unfolding left
   spends-parts n s p = record { spent = omega (arith, parts-few Missing (p .place) (p .rest)) }
 
+pub spends-spares : {S A : Type 0} (n c all : ℕ) (p : Tape) (r : Run S A) → c + n ≤ all → Spends nothing (hand none n) p r → Spends (λ a. hand none c) (hand none all) p r
+unfolding left
+spends-spares {A = A} n c all p r e g = record { spent = go (r .verdict) (g .spent) }
+  where
+    go : (v : Verdict A) → length (r .log) + length (r .tape .rest) + left nothing v ≤ length (p .rest) + n
+        → length (r .log) + length (r .tape .rest) + left {A = A} (λ a. hand none c) v ≤ length (p .rest) + all
+    go (going a) l = omega arith
+    go refused l = omega arith
+    go (failed m) l = omega arith
+
 abbrev pub counting : (S : Type 0) → Logic anything S
 counting S = record {
   Good = λ A f h s p r. Spends f h p r;
@@ -207,8 +217,9 @@ counting S = record {
   writes = λ A f x n e s p r w g. spends-one f x n e p r g;
   asks = λ A f x n kind s p k e g. spends-ask f x x n kind s p k (λ a b q. g a b q tt);
   asksAbout = λ A f x n kind who s p k e g. spends-about f x n kind who s p k g;
-  asksText = λ A f n s p k g. spends-ask f none none n 12 s p k (λ a b q. record { spent = g a b q tt .spent });
+  asksText = λ A f n s p k e g. spends-ask f none none n 12 s p k (λ a b q. record { spent = g a b q tt .spent });
   parts = λ content proposer n s p e. spends-parts content proposer n s p;
+  spares = λ A n left all s p r e g. spends-spares n left all p r e g;
   goesOn = λ A B f g h s p r k b m. spends-onward f g h p r k b m;
 }
 
