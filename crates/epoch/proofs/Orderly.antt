@@ -16,6 +16,7 @@ use Rattle.steps.specs.Runs.{Verdict, going, refused, failed, Run, ends, before
 use Rattle.steps.specs.Parts.{isPart, messageKind, faultKind, partEntries, lastOutput, partsFrom, readParts}
 use Rattle.steps.proofs.Parts.{parts-on, parts-off}
 use Rattle.steps.proofs.Past.{OfKinds, Past, past-same, past-then, past-ask, past-about, past-parts}
+use Rattle.steps.proofs.Logic.{Terms, Logic}
 use Rattle.epoch.proofs.Told.{fivesAmong, Quiet}
 
 -- LOGS
@@ -153,4 +154,32 @@ orderly-parts is f content proposer s p h = record {
   state = h;
   past = past-parts is f content proposer Missing (p .place) (p .rest);
   quiet = quiet-parts content proposer Missing (p .place) (p .rest);
+}
+
+-- as a logic of runs
+abbrev pub orders : (ℕ → Bool) → Terms
+orders is = record {
+  Kind = λ k. is k ≡ true;
+  Text = is 12 ≡ true;
+  Parts = (k : ℕ) → isPart k ≡ true → is k ≡ true;
+  Writes = λ e. Quiet (e ∷ []);
+  Number = λ n. Unit {0};
+  Handle = λ b. Unit {0};
+  Index = λ i. Unit {0};
+}
+
+abbrev pub ordering : {S : Type 0} (is : ℕ → Bool) → (S → Type 0) → Logic (orders is) S
+ordering is P = record {
+  Good = λ A f h s p r. P s → Orderly P is p r;
+  Step = λ x s y t. P s → P t;
+  steps = λ A f x y n s t p r e g h. g (e h);
+  goes = λ A f h a s p e l i. orderly-ends i;
+  fails = λ A f h n s p e i. orderly-ends i;
+  writes = λ A f x n e s p r w g h. orderly-before w (g h);
+  asks = λ A f x n kind s p k e g h. orderly-ask p kind s k e h (λ a b u. g a b u tt h);
+  asksAbout = λ A f x n kind who s p k e g h. orderly-about p kind who s k e h (λ a b u. g a b u h);
+  asksText = λ A f n s p k e g h. orderly-ask p 12 s k e h (λ a b u. g a b u tt h);
+  parts = λ content proposer n s p e h. orderly-parts is e content proposer s p h;
+  spares = λ A n left all s p r e g. g;
+  goesOn = λ A B f g h s p r k l m i. orderly-onward r k (l i) (λ a t q. m a t q);
 }
