@@ -31,30 +31,30 @@ pub batch-writes : (n epoch : ℕ) → Writes (1 + n) (outputBatch n epoch)
 batch-writes n epoch w p = batch-in-writes (recordLength n) n epoch w p
 
 -- THE EPOCH'S TWO CALLS
-rules : (n : ℕ) → Rules anything (counting ThresholdDecrypt) (counting ProposalState) (counting (List ℕ)) n
+rules : (n : ℕ) → Rules anything (counting ThresholdDecrypt) (counting (List ℕ)) n (counting ProposalState)
 rules n = record {
-  inputs = record { combines = combines; number = tt; invalid = λ p. tt; ciphertext = λ td c u. tt };
   subset = subsets n;
-  reads = tt;
-  faults = λ k a e. tt;
-  entered = λ p m w t r g. record { spent = g .spent };
-  dropped = λ w o. tt;
-  listed = λ i m w t r g. g tt tt;
-  opened = λ p value w u. tt;
-  accepted = λ p w i. tt;
+  handles = record {
+    entries = record { entered = λ p m w t r g. record { spent = g .spent }; dropped = λ w o. tt };
+    inputs = record { combines = combines; number = tt; invalid = λ p. tt; ciphertext = λ td c u. tt };
+    reads = tt;
+    unreadable = λ p. tt;
+    listed = λ i m w t r g. g tt tt;
+    opened = λ p value w u. tt;
+    accepted = λ p w i. tt;
+  };
+  finishes = record { late = λ a. tt; finished = λ p w. tt; unexpected = λ p w. tt };
   emptied = λ m w t r g. record { spent = g .spent };
   cut = λ m w t r g. record { spent = g .spent };
   done = λ w. tt;
-  finished = λ p w. tt;
-  unexpected = λ p w. tt;
 }
 
 module _ (net : NetworkInfo) (strategy : SubsetHandlingStrategy) (encrypted : Bool) where
   pub propose-writes : Writes (1 + atDone net) (propose net strategy encrypted)
   propose-writes w tape =
-      bounded-wider (atDone net + 1) (1 + atDone net) tape _ (omega arith) (spends-bounded _ _ tape _ (propose-keeps _ _ _ _ net (rules _) strategy encrypted tt tt tt w tape))
+      bounded-wider (atDone net + 1) (1 + atDone net) tape _ (omega arith) (spends-bounded _ _ tape _ (propose-keeps _ _ _ net _ (rules _) strategy encrypted tt tt tt w tape))
 
   pub content-writes : (sender p : ℕ) (content : MessageContent) → Writes (1 + atDone net) (handleMessageContent net strategy encrypted sender p content)
   content-writes sender p content w tape =
       bounded-wider (atDone net + 1) (1 + atDone net) tape _ (omega arith)
-      (spends-bounded _ _ tape _ (content-keeps _ _ _ _ net (rules _) strategy encrypted tt sender p content tt (λ share e. tt) w tape))
+      (spends-bounded _ _ tape _ (content-keeps _ _ _ net _ (rules _) strategy encrypted tt sender p content tt (λ share e. tt) w tape))

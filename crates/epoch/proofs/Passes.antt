@@ -215,9 +215,8 @@ module _ (net : NetworkInfo) (proposer : ℕ) where
   input-runs value td p = input-keeps _ _ net (inputs entryKinds (λ k e. e)) proposer value tt 0 td p tt
 
 -- THE EPOCH'S TWO CALLS ARE QUIET
-epoch-rules : (n : ℕ) → Rules (orders anyKind) (ordering anyKind Any) (ordering anyKind Any) (ordering anyKind Any) n
+epoch-rules : (n : ℕ) → Rules (orders anyKind) (ordering anyKind Any) (ordering anyKind Any) n (ordering anyKind Any)
 epoch-rules n = record {
-  inputs = inputs anyKind (λ k e. refl);
   subset = record {
     moves = record { reads = λ k e. refl; parts = λ k e. refl; agreed = λ s out h. tt; came = λ s out h. tt; voted = λ s out h. tt };
     index = λ p l. tt;
@@ -225,26 +224,24 @@ epoch-rules n = record {
     added = λ p w o i h. tt;
     decided = λ w h. tt;
   };
-  reads = refl;
-  faults = λ k a e. quiet-fault k a 0 (not-five k e);
-  entered = λ p m w t r g h. let k = g tt in record { state = tt; past = k .past; quiet = k .quiet };
-  dropped = λ w o h. tt;
-  listed = λ i m w t r g h. g tt tt tt;
-  opened = λ p value w u h. tt;
-  accepted = λ p w i h. tt;
+  handles = record {
+    entries = record { entered = λ p m w t r g h. let k = g tt in record { state = tt; past = k .past; quiet = k .quiet }; dropped = λ w o h. tt };
+    inputs = inputs anyKind (λ k e. refl);
+    reads = refl;
+    unreadable = λ p. quiet-fault 3 p 0 refl;
+    listed = λ i m w t r g h. g tt tt tt;
+    opened = λ p value w u h. tt;
+    accepted = λ p w i h. tt;
+  };
+  finishes = record { late = λ a. quiet-fault 2 a 0 refl; finished = λ p w h. tt; unexpected = λ p w h. tt };
   emptied = λ m w t r g h. orderly-inside (firstContributions n 0) r (λ w _. tt) (g tt);
   cut = λ m w t r g h. orderly-inside (firstContributions n (countOf w)) r (λ w _. tt) (g tt);
   done = λ w h. tt;
-  finished = λ p w h. tt;
-  unexpected = λ p w h. tt;
 }
-  where
-    not-five : (k : ℕ) → within 2 3 k ≡ true → eqb k 5 ≡ false
-    not-five k e = ne-eqb k 5 (λ z. omega (arith, leb-true k 3 (and-true (leb 2 k) (leb k 3) e .1)))
 
 pub quiet-proposed : (net : NetworkInfo) (strategy : SubsetHandlingStrategy) (encrypted : Bool) (w : List ℕ) (p : Tape) → Quiet (propose net strategy encrypted w p .log)
-quiet-proposed net strategy encrypted w p = propose-keeps _ _ _ _ net (epoch-rules _) strategy encrypted refl tt tt w p tt .quiet
+quiet-proposed net strategy encrypted w p = propose-keeps _ _ _ net _ (epoch-rules _) strategy encrypted refl tt tt w p tt .quiet
 
 pub quiet-handled : (net : NetworkInfo) (strategy : SubsetHandlingStrategy) (encrypted : Bool) (sender proposer : ℕ) (content : MessageContent) (w : List ℕ) (p : Tape)
     → Quiet (handleMessageContent net strategy encrypted sender proposer content w p .log)
-quiet-handled net strategy encrypted sender proposer content w p = content-keeps _ _ _ _ net (epoch-rules _) strategy encrypted tt sender proposer content tt (λ share e. tt) w p tt .quiet
+quiet-handled net strategy encrypted sender proposer content w p = content-keeps _ _ _ net _ (epoch-rules _) strategy encrypted tt sender proposer content tt (λ share e. tt) w p tt .quiet

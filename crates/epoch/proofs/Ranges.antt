@@ -60,35 +60,42 @@ unfolding SmallOption
 batch-safe n epoch w p h o = kept-any (batch-keeps (small n) (keeping n (EpochOk n)) (batches n) (recordLength n) n epoch w p h o tt)
 
 module _ (n : ℕ) (some : 0 < n) (few : n ≤ 16) where
-  rules : Rules (small n) (keeping n InstanceOk) (keeping n ProposalOk) (keeping n (EpochOk n)) n
+  rules : Rules (small n) (keeping n InstanceOk) (keeping n (EpochOk n)) n (keeping n ProposalOk)
   unfolding SmallOption EntryOk limitAt
   rules = record {
-    inputs = record { combines = combines n; number = tt; invalid = λ p. tt; ciphertext = λ td c l h u. (set-ok td c h l, tt) };
     subset = subsets n;
-    reads = refl;
-    faults = λ k a e. tt;
-    entered = λ p m w t r g h o u.
-        let k = g (load-entry-ok n p w few h) o u in
-        record { state = store-entry-ok n p w _ (entry-after-ok (r .verdict) (r .state) (k .state) (k .value)) h; tape = k .tape; value = k .value };
-    dropped = λ w o h u. (h, tt);
-    listed = λ i m w t r g h o u. g (field-below n w i 7 h (omega arith)) (field-below n w _ 1 h (omega arith)) h o u;
-    opened = λ p value w l h u. (store-entry-ok n p w (complete value) l h, tt);
-    accepted = λ p w i h u. (accept-ok n p w i h, tt);
+    handles = record {
+      entries = record {
+        entered = λ p m w t r g h o u.
+            let k = g (load-entry-ok n p w few h) o u in
+            record { state = store-entry-ok n p w _ (entry-after-ok (r .verdict) (r .state) (k .state) (k .value)) h; tape = k .tape; value = k .value };
+        dropped = λ w o h u. (h, tt);
+      };
+      inputs = record { combines = combines n; number = tt; invalid = λ p. tt; ciphertext = λ td c l h u. (set-ok td c h l, tt) };
+      reads = refl;
+      unreadable = λ p. tt;
+      listed = λ i m w t r g h o u. g (field-below n w i 7 h (omega arith)) (field-below n w _ 1 h (omega arith)) h o u;
+      opened = λ p value w l h u. (store-entry-ok n p w (complete value) l h, tt);
+      accepted = λ p w i h u. (accept-ok n p w i h, tt);
+    };
+    finishes = record {
+      late = λ a. tt;
+      finished = λ p w h u. (dropped-ok n some w p h, tt);
+      unexpected = λ p w h u. (store-entry-ok n p _ missing tt (dropped-ok n some w p h), tt);
+    };
     emptied = λ m w t r g h o u. kept-inside (firstContributions n 0) r (λ w k. first-ok n some 0 w (omega arith) k) (g h o u);
     cut = λ m w t r g h o u. kept-inside (firstContributions n (countOf w)) r (λ v k. first-ok n some (countOf w) v (omega (arith, h .below countAt)) k) (g h o u);
     done = λ w h u. (done-ok n some w h, tt);
-    finished = λ p w h u. (dropped-ok n some w p h, tt);
-    unexpected = λ p w h u. (store-entry-ok n p _ missing tt (dropped-ok n some w p h), tt);
   }
 
 -- THE EPOCH'S TWO CALLS
 module _ (net : NetworkInfo) (some : 0 < net .«num_nodes») (few : net .«num_nodes» ≤ 16) (strategy : SubsetHandlingStrategy) (encrypted : Bool) where
   pub propose-safe : SafeEpoch (net .«num_nodes») (propose net strategy encrypted)
   unfolding SmallOption
-  propose-safe w tape h o = kept-any (propose-keeps _ _ _ _ net (rules _ some few) strategy encrypted refl tt tt w tape h o tt)
+  propose-safe w tape h o = kept-any (propose-keeps _ _ _ net _ (rules _ some few) strategy encrypted refl tt tt w tape h o tt)
 
   pub content-safe : (sender p : ℕ) (content : MessageContent) → p < net .«num_nodes» → ContentOk content
       → SafeEpoch (net .«num_nodes») (handleMessageContent net strategy encrypted sender p content)
   unfolding SmallOption ContentOk
   content-safe sender p content l u w tape h o =
-      kept-any (content-keeps _ _ _ _ net (rules _ some few) strategy encrypted tt sender p content l (λ share e. rw e at u) w tape h o tt)
+      kept-any (content-keeps _ _ _ net _ (rules _ some few) strategy encrypted tt sender p content l (λ share e. rw e at u) w tape h o tt)

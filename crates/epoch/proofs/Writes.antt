@@ -20,12 +20,15 @@ use Rattle.epochwords.specs.Words.{accept, DecryptionState, missing, ongoing, c
 use Rattle.steps.proofs.Logic.{anything, Logic}
 use Rattle.steps.proofs.States.{holding}
 use Rattle.decryption.proofs.Walk.{any-combines}
-use Rattle.epoch.proofs.Walk.{Rules, propose-keeps, content-keeps}
+use Rattle.epoch.proofs.Walk.{Inputs, Rules, propose-keeps, content-keeps}
 use Rattle.epoch.specs.Epoch.{firstContributions, entryAfter, subsetComplete, proposalDropped, propose, handleMessageContent}
 
 -- nothing is said of a proposal or of an entry's instance
 abbrev still : {S : Type 0} → Logic anything S
 still = holding (λ s. Unit {0}) (λ i. Unit {0})
+
+still-inputs : Inputs anything still
+still-inputs = record { combines = any-combines still (λ s u h. tt); number = tt; invalid = λ p. tt; ciphertext = λ td c u h. tt }
 
 -- A PROPERTY OF AN EPOCH'S WORDS that is kept when a word other than the status is written, and when the status becomes 2
 module _ (P : List ℕ → Type 0) (other : (w : List ℕ) (i x : ℕ) → (i ≡ 0 → ⊥) → P w → P (set w i x)) (finished : (w : List ℕ) → P w → P (set w statusAt 2)) where
@@ -83,14 +86,8 @@ module _ (P : List ℕ → Type 0) (other : (w : List ℕ) (i x : ℕ) → (i �
     unfolding subsetComplete
     keeps-complete w h = other _ decidedAt 0 (λ e. omega arith) (finished w h)
 
-    rules : Rules anything still still (holding P (λ i. Unit {0})) n
+    rules : Rules anything still (holding P (λ i. Unit {0})) n still
     rules = record {
-      inputs = record {
-        combines = any-combines still (λ s u h. tt);
-        number = tt;
-        invalid = λ p. tt;
-        ciphertext = λ td c u h. tt;
-      };
       subset = record {
         moves = record { reads = λ k e. tt; parts = tt; agreed = λ s out h. tt; came = λ s out h. tt; voted = λ s out h. tt };
         index = λ p l. tt;
@@ -98,24 +95,25 @@ module _ (P : List ℕ → Type 0) (other : (w : List ℕ) (i x : ℕ) → (i �
         added = λ p w o i h. keeps-contributed w p o h;
         decided = λ w h. other w decidedAt 1 (λ e. omega arith) h;
       };
-      reads = tt;
-      faults = λ k a e. tt;
-      entered = λ p m w t r g h. keeps-decryption w p (entryAfter (r .verdict) (r .state)) h;
-      dropped = λ w o h. h;
-      listed = λ i m w t r g h. g tt tt h;
-      opened = λ p value w u h. keeps-decryption w p (complete value) h;
-      accepted = λ p w i h. keeps-accept w p h;
+      handles = record {
+        entries = record { entered = λ p m w t r g h. keeps-decryption w p (entryAfter (r .verdict) (r .state)) h; dropped = λ w o h. h };
+        inputs = still-inputs;
+        reads = tt;
+        unreadable = λ p. tt;
+        listed = λ i m w t r g h. g tt tt h;
+        opened = λ p value w u h. keeps-decryption w p (complete value) h;
+        accepted = λ p w i h. keeps-accept w p h;
+      };
+      finishes = record { late = λ a. tt; finished = λ p w h. keeps-dropped w p h; unexpected = λ p w h. keeps-decryption _ p missing (keeps-dropped w p h) };
       emptied = λ m w t r g h. keeps-first 0 (r .state) (g h);
       cut = λ m w t r g h. keeps-first (countOf w) (r .state) (g h);
       done = λ w h. keeps-complete w h;
-      finished = λ p w h. keeps-dropped w p h;
-      unexpected = λ p w h. keeps-decryption _ p missing (keeps-dropped w p h);
     }
 
   -- THE EPOCH'S TWO CALLS
   module _ (net : NetworkInfo) (strategy : SubsetHandlingStrategy) (encrypted : Bool) where
     pub keeps-propose : (w : List ℕ) (t : Tape) → P w → P (propose net strategy encrypted w t .state)
-    keeps-propose w t h = propose-keeps _ _ _ _ net (rules _) strategy encrypted tt tt tt w t h
+    keeps-propose w t h = propose-keeps _ _ _ net _ (rules _) strategy encrypted tt tt tt w t h
 
     pub keeps-message : (sender p : ℕ) (content : MessageContent) (w : List ℕ) (t : Tape) → P w → P (handleMessageContent net strategy encrypted sender p content w t .state)
-    keeps-message sender p content w t h = content-keeps _ _ _ _ net (rules _) strategy encrypted tt sender p content tt (λ share e. tt) w t h
+    keeps-message sender p content w t h = content-keeps _ _ _ net _ (rules _) strategy encrypted tt sender p content tt (λ share e. tt) w t h

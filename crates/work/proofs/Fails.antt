@@ -25,9 +25,8 @@ use Rattle.state.specs.State.{nodes, ahead, currentEpoch, netOf, epochWords}
 use Rattle.work.specs.HoneyBadger.{updateEpoch, epochStateMut, inEpoch, tryOutputBatches, propose, handleMessage}
 
 -- every step is allowed, and every index and handle
-rules : (ok : ℕ → Bool) → ok 24 ≡ true → ok 25 ≡ true → (n : ℕ) → Rules (numbers ok) (failing ok ThresholdDecrypt) (failing ok ProposalState) (failing ok (List ℕ)) n
+rules : (ok : ℕ → Bool) → ok 24 ≡ true → ok 25 ≡ true → (n : ℕ) → Rules (numbers ok) (failing ok ThresholdDecrypt) (failing ok (List ℕ)) n (failing ok ProposalState)
 rules ok ok-24 ok-25 n = record {
-  inputs = record { combines = combines ok ok-24; number = ok-25; invalid = λ p. tt; ciphertext = λ td c u. tt };
   subset = record {
     moves = record { reads = λ k e. tt; parts = tt; agreed = λ s out. tt; came = λ s out. tt; voted = λ s out. tt };
     index = λ p l. tt;
@@ -35,27 +34,28 @@ rules ok ok-24 ok-25 n = record {
     added = λ p w o i. tt;
     decided = λ w. tt;
   };
-  reads = tt;
-  faults = λ k a e. tt;
-  entered = λ p m w t r g. record { fails = g .fails };
-  dropped = λ w o. tt;
-  listed = λ i m w t r g. g tt tt;
-  opened = λ p value w u. tt;
-  accepted = λ p w i. tt;
+  handles = record {
+    entries = record { entered = λ p m w t r g. record { fails = g .fails }; dropped = λ w o. tt };
+    inputs = record { combines = combines ok ok-24; number = ok-25; invalid = λ p. tt; ciphertext = λ td c u. tt };
+    reads = tt;
+    unreadable = λ p. tt;
+    listed = λ i m w t r g. g tt tt;
+    opened = λ p value w u. tt;
+    accepted = λ p w i. tt;
+  };
+  finishes = record { late = λ a. tt; finished = λ p w. tt; unexpected = λ p w. tt };
   emptied = λ m w t r g. record { fails = g .fails };
   cut = λ m w t r g. record { fails = g .fails };
   done = λ w. tt;
-  finished = λ p w. tt;
-  unexpected = λ p w. tt;
 }
 
 -- AN EPOCH fails with 24 and 25 of threshold decryption, with the number that the subset's caller gives, and with 21 where the proposal is serialised
 module _ (ok : ℕ → Bool) (ok-24 : ok 24 ≡ true) (ok-25 : ok 25 ≡ true) (net : NetworkInfo) (strategy : SubsetHandlingStrategy) (encrypted : Bool) where
   pub only-propose-epoch : ok 21 ≡ true → ok 22 ≡ true → (w : List ℕ) (t : Tape) → Only ok (proposeEpoch net strategy encrypted w t)
-  only-propose-epoch ok-21 ok-22 w t = propose-keeps _ _ _ _ net (rules ok ok-24 ok-25 _) strategy encrypted tt ok-21 ok-22 w t
+  only-propose-epoch ok-21 ok-22 w t = propose-keeps _ _ _ net _ (rules ok ok-24 ok-25 _) strategy encrypted tt ok-21 ok-22 w t
 
   pub only-content : ok 23 ≡ true → (sender p : ℕ) (c : MessageContent) (w : List ℕ) (t : Tape) → Only ok (handleMessageContent net strategy encrypted sender p c w t)
-  only-content ok-23 sender p c w t = content-keeps _ _ _ _ net (rules ok ok-24 ok-25 _) strategy encrypted ok-23 sender p c tt (λ share e. tt) w t
+  only-content ok-23 sender p c w t = content-keeps _ _ _ net _ (rules ok ok-24 ok-25 _) strategy encrypted ok-23 sender p c tt (λ share e. tt) w t
 
 -- A BATCH does not fail
 pub only-batch : (ok : ℕ → Bool) (n epoch : ℕ) (w : List ℕ) (t : Tape) → Only ok (outputBatch n epoch w t)
