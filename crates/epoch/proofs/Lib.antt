@@ -8,7 +8,6 @@ pub mod Reaching
 pub mod Writes
 pub mod Ranges
 pub mod Told
-pub mod Shares
 pub mod Orderly
 pub mod Passes
 pub mod Texts

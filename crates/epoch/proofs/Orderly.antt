@@ -1,5 +1,5 @@
 -- Runs that have read answers of certain kinds only, whose log has no outputs and no faults 5, and whose state has a property. Assumes nothing.
-use Prim.Native.Nat.{ℕ, _+_}
+use Prim.Native.Nat.{ℕ}
 use mathlib.Core.Path.{_≡_, refl, sym, ap}
 use mathlib.Core.List.{List, [], _∷_, _++_, append-assoc}
 use mathlib.Core.Bool.{Bool, true, false, cond}
@@ -15,7 +15,7 @@ use Rattle.steps.specs.Steps.{Entry, message, fault, output, Item, item, faults
 use Rattle.steps.specs.Runs.{Verdict, going, refused, failed, Run, ends, before, onwardAs, onward, heardAs, heard, inside}
 use Rattle.steps.specs.Parts.{isPart, messageKind, faultKind, partEntries, lastOutput, partsFrom, readParts}
 use Rattle.steps.proofs.Parts.{parts-on, parts-off}
-use Rattle.steps.proofs.Past.{OfKinds, Past, past-same, past-then, past-ask, past-about, past-parts}
+use Rattle.steps.proofs.Past.{Past, past-same, past-then, past-ask, past-about, past-parts}
 use Rattle.steps.proofs.Logic.{Terms, Logic}
 use Rattle.epoch.proofs.Told.{fivesAmong, Quiet}
 
@@ -92,24 +92,12 @@ Any s = Unit {0}
 abbrev pub anyKind : ℕ → Bool
 anyKind k = true
 
-kinds-any : (is : ℕ → Bool) (l : List Rec) → OfKinds is l → OfKinds anyKind l
-unfolding OfKinds
-kinds-any is [] k = tt
-kinds-any is (r ∷ rs) k = (refl, kinds-any is rs (k .1))
-
-pub orderly-any : {S A : Type 0} {P : S → Type 0} {is : ℕ → Bool} {p : Tape} {r : Run S A} → Orderly P is p r → Orderly Any anyKind p r
-orderly-any {is = is} k = record { state = tt; past = record { read = k .past .read; rests = k .past .rests; kinds = kinds-any is (k .past .read) (k .past .kinds) }; quiet = k .quiet }
-
 module _ {S A : Type 0} {P : S → Type 0} {is : ℕ → Bool} where
   pub orderly-ends : {v : Verdict A} {s : S} {p : Tape} → P s → Orderly P is p (ends v s p)
   orderly-ends {p = p} h = record { state = h; past = past-same is (p .rest); quiet = quiet-none }
 
   pub orderly-before : {l : List Entry} {p : Tape} {r : Run S A} → Quiet l → Orderly P is p r → Orderly P is p (before l r)
   orderly-before q k = record { state = k .state; past = k .past; quiet = quiet-append _ _ q (k .quiet) }
-
-  pub orderly-cond : {p : Tape} (x : Bool) (r s : Run S A) → Orderly P is p r → Orderly P is p s → Orderly P is p (cond x r s)
-  orderly-cond true r s f g = f
-  orderly-cond false r s f g = g
 
   -- answers read before a run
   orderly-after : {p q : Tape} {r : Run S A} → Past is (p .rest) (q .rest) → Orderly P is q r → Orderly P is p r

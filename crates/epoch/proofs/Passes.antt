@@ -189,7 +189,7 @@ abbrev Decrypts : {A : Type 0} → (ThresholdDecrypt → Tape → Run ThresholdD
 Decrypts k = (td : ThresholdDecrypt) (p : Tape) → Orderly Any entryKinds p (k td p)
 
 -- with more kinds than an entry's as well
-inputs : (is : ℕ → Bool) → ((k : ℕ) → entryKinds k ≡ true → is k ≡ true) → Inputs (orders is) (ordering is Any)
+pub inputs : (is : ℕ → Bool) → ((k : ℕ) → entryKinds k ≡ true → is k ≡ true) → Inputs (orders is) (ordering is Any)
 inputs is more = record {
   combines = record {
     checks = record { reads = λ k e. more k (within-wider 9 11 12 k (omega arith) e); faults = λ k a e. quiet-fault k a 0 (not-five k e); share = λ td i v u h. tt; removed = λ td i h. tt };

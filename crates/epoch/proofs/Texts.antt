@@ -6,23 +6,21 @@ use native.Mathlib.Omega.{arith}
 use mathlib.Core.List.{List}
 use mathlib.Core.Bool.{Bool, true, false, cond}
 use mathlib.Core.Option.{Option, none, some}
-use lib.ListN.{set}
 use lib.Dec.{leb, eqb}
-use borrow.Author.Tests.{eqb-true, eqb-false, eq-eqb, ne-eqb, leb-true}
+use borrow.Author.Tests.{eqb-true, eqb-false, ne-eqb, leb-true}
 use Rattle.steps.specs.declared.network_info.NetworkInfo.{NetworkInfo}
 use Rattle.steps.specs.Answers.{Rec, Tape, tape}
-use Rattle.steps.specs.Runs.{Verdict, going, refused, failed, Run, onwardAs, onward}
+use Rattle.steps.specs.Runs.{Verdict, going, refused, failed, Run}
 use Rattle.steps.specs.Taken.{orElse, concernedAfter, concerns, firstDecrypted}
 use Rattle.steps.proofs.Laws.{and-true}
 use Rattle.steps.proofs.Past.{Past, past-one}
 use Rattle.decryption.specs.declared.ThresholdDecrypt.{ThresholdDecrypt}
-use Rattle.decryption.specs.Decrypt.{isSender, countShares, tryWith, tryOutput, storeShare, handleMessage as handleShare}
-use Rattle.decryption.proofs.Laws.{valid-early}
+use Rattle.decryption.specs.Decrypt.{handleMessage as handleShare}
 use Rattle.steps.specs.Table.{within}
 use Rattle.steps.proofs.Logic.{Terms, Logic}
 use Rattle.decryption.proofs.Walk.{Does, handle-keeps as share-keeps}
-use Rattle.decryption.proofs.Errors.{handle-keeps}
-use Rattle.steps.proofs.After.{AfterAs, After, after-map, after-cond, after-onward, Reads, after-ask, after-about}
+use Rattle.decryption.proofs.Errors.{handle-keeps, early-none}
+use Rattle.steps.proofs.After.{AfterAs, After, after-map, after-onward, Reads, after-ask, after-about}
 use Rattle.epoch.specs.Epoch.{inputCiphertext}
 use Rattle.epoch.proofs.Walk.{Inputs, input-keeps}
 use Rattle.epoch.proofs.Passes.{decryptionKinds, entry-past, share-runs, input-runs}
@@ -173,17 +171,6 @@ module _ (net : NetworkInfo) (proposer : ℕ) where
       after-map (inputCiphertext net proposer value td p) _ _ (input-keeps _ (telling ThresholdDecrypt) net inputs proposer value tt 0 td p)
       (λ o td′ z h. tells-opens (p .rest) (z .rest) o h)
 
-  -- without a ciphertext nothing is combined
-  share-early : (sender share : ℕ) (td : ThresholdDecrypt) (p : Tape) → td .ciphertext ≡ 0 → After (handleShare net proposer sender share td p) (λ o td′ z. o ≡ none)
-  unfolding handleShare storeShare tryOutput tryWith onward onwardAs
-  share-early sender share td p e =
-      after-cond (td .terminated) _ _ _ refl
-      (rw (valid-early sender td p e, eq-eqb (td .ciphertext) 0 e)
-      (after-cond (isSender td sender) _ _ _ refl
-      (after-cond (td .terminated) _ _ _ refl
-      (after-cond (leb (countShares (set (td .shares) sender share)) (net .«num_faulty»)) _ _ _ refl
-      refl))))
-
   pub input-ran : (value : ℕ) (td : ThresholdDecrypt) (p : Tape) → After (inputCiphertext net proposer value td p) (λ o td′ z. Ran (p .rest) o (z .rest))
   input-ran value td p =
       after-map (inputCiphertext net proposer value td p) _ _
@@ -199,5 +186,5 @@ module _ (net : NetworkInfo) (proposer : ℕ) where
       (λ o td′ z h. record { ran = record { opens = h .0 .0; past = h .1 .0 }; early = h .0 .1; keeps = h .1 .1 })
     where
       go : (x : Bool) → eqb (td .ciphertext) 0 ≡ x → After (handleShare net proposer sender share td p) (λ o td′ z. td .ciphertext ≡ 0 → o ≡ none)
-      go true e = after-map (handleShare net proposer sender share td p) _ _ (share-early sender share td p (eqb-true _ _ e)) (λ o td′ z h _. h)
+      go true e = rw (early-none net proposer sender share td p (eqb-true _ _ e)) (λ z. refl)
       go false e = after-any (handleShare net proposer sender share td p) _ (λ o td′ z n. absurd (eqb-false (td .ciphertext) 0 e n))

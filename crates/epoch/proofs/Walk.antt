@@ -2,20 +2,20 @@
 use Prim.Native.Nat.{ℕ, zero, suc, _+_, _*_, _≤_}
 use mathlib.Core.Path.{_≡_, refl}
 use mathlib.Core.List.{List}
-use mathlib.Core.Bool.{Bool, true, _&&_, not}
+use mathlib.Core.Bool.{Bool, _&&_, not}
 use mathlib.Core.Option.{Option, none}
 use native.Mathlib.Omega.{arith}
 use lib.ListN.{getD}
 use lib.Dec.{eqb}
 use Rattle.steps.specs.declared.network_info.NetworkInfo.{NetworkInfo}
-use Rattle.steps.specs.Table.{within}
 use Rattle.steps.specs.Answers.{Tape}
 use Rattle.steps.specs.Steps.{fault}
 use Rattle.steps.specs.Runs.{Verdict, going, refused, failed, Run, ends, before, inside}
-use Rattle.steps.proofs.Logic.{Hand, hand, nothing, Terms, Logic, here, there, test, perhaps}
+use Rattle.steps.proofs.Logic.{Hand, hand, nothing, Terms, anything, Logic, here, there, test, perhaps}
+use Rattle.steps.proofs.States.{holding, still}
 use Rattle.decryption.specs.declared.ThresholdDecrypt.{ThresholdDecrypt}
 use Rattle.decryption.specs.Decrypt.{isSender, withCiphertext}
-use Rattle.decryption.proofs.Walk.{Does, plaintext, Combines, by-valid, set-keeps, start-keeps, handle-keeps as share-keeps}
+use Rattle.decryption.proofs.Walk.{Does, plaintext, Combines, any-combines, by-valid, set-keeps, start-keeps, handle-keeps as share-keeps}
 use Rattle.subset.specs.declared.ProposalState.{ProposalState}
 use Rattle.subset.specs.Words.{countOf, valueAt, contributor}
 use Rattle.subset.proofs.Walk.{Rules as Subsets, propose-keeps as propose-subset-keeps, handle-keeps as handle-subset-keeps}
@@ -201,3 +201,25 @@ module _ (T : Terms) (D : Logic T ThresholdDecrypt) (L : Logic T (List ℕ)) (ne
     unfolding handleMessageContent
     content-keeps number sender p (Subset content) i u w t = call-keeps _ _ (omega arith) w t (handle-subset-keeps T P L net (R .subset) 23 number content p i 0 w t)
     content-keeps number sender p (DecryptionShare share) i u w t = share-message-keeps (R .handles .entries) (R .handles .inputs .combines) (R .finishes .late) sender p share (u share refl) most w t
+
+-- A PROPERTY OF THE WORDS ALONE, which every write of an entry keeps
+module _ (n : ℕ) (Q : List ℕ → Type 0) (store : (p : ℕ) (d : DecryptionState) (w : List ℕ) → Q w → Q (storeDecryption n w p d)) where
+  abbrev pub holds : Logic anything (List ℕ)
+  holds = holding Q (λ i. Unit {0})
+
+  pub entries-hold : Entries anything still holds n
+  entries-hold = record { entered = λ p m w t r g h. store p (entryAfter (r .verdict) (r .state)) w h; dropped = λ w o h. h }
+
+  pub handles-hold : ((p : ℕ) (w : List ℕ) → Q w → Q (accept w p)) → Handles anything still holds n
+  handles-hold accepts = record {
+    entries = entries-hold;
+    inputs = record { combines = any-combines still (λ s u h. tt); number = tt; invalid = λ p. tt; ciphertext = λ td c u h. tt };
+    reads = tt;
+    unreadable = λ p. tt;
+    listed = λ i m w t r g h. g tt tt h;
+    opened = λ p value w u h. store p (complete value) w h;
+    accepted = λ p w i h. accepts p w h;
+  }
+
+  pub finishes-hold : ((p : ℕ) (w : List ℕ) → Q w → Q (proposalDropped n w p)) → Finishes anything still holds n
+  finishes-hold drops = record { late = λ a. tt; finished = λ p w h. drops p w h; unexpected = λ p w h. store p missing _ (drops p w h) }

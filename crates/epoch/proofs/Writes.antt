@@ -17,18 +17,10 @@ use Rattle.subset.specs.Subset.{contributed}
 use Rattle.epochwords.specs.declared.SubsetHandlingStrategy.{SubsetHandlingStrategy}
 use Rattle.epoch.specs.declared.MessageContent.{MessageContent}
 use Rattle.epochwords.specs.Words.{accept, DecryptionState, missing, ongoing, complete, decryptionAt, plaintextAt, ciphertextAt, hadInputAt, terminatedAt, shareAt, setShares, storeEntry, storeDecryption}
-use Rattle.steps.proofs.Logic.{anything, Logic}
-use Rattle.steps.proofs.States.{holding}
-use Rattle.decryption.proofs.Walk.{any-combines}
-use Rattle.epoch.proofs.Walk.{Inputs, Rules, propose-keeps, content-keeps}
-use Rattle.epoch.specs.Epoch.{firstContributions, entryAfter, subsetComplete, proposalDropped, propose, handleMessageContent}
-
--- nothing is said of a proposal or of an entry's instance
-abbrev still : {S : Type 0} → Logic anything S
-still = holding (λ s. Unit {0}) (λ i. Unit {0})
-
-still-inputs : Inputs anything still
-still-inputs = record { combines = any-combines still (λ s u h. tt); number = tt; invalid = λ p. tt; ciphertext = λ td c u h. tt }
+use Rattle.steps.proofs.Logic.{anything}
+use Rattle.steps.proofs.States.{holding, still}
+use Rattle.epoch.proofs.Walk.{Rules, handles-hold, finishes-hold, propose-keeps, content-keeps}
+use Rattle.epoch.specs.Epoch.{firstContributions, subsetComplete, proposalDropped, propose, handleMessageContent}
 
 -- A PROPERTY OF AN EPOCH'S WORDS that is kept when a word other than the status is written, and when the status becomes 2
 module _ (P : List ℕ → Type 0) (other : (w : List ℕ) (i x : ℕ) → (i ≡ 0 → ⊥) → P w → P (set w i x)) (finished : (w : List ℕ) → P w → P (set w statusAt 2)) where
@@ -95,16 +87,8 @@ module _ (P : List ℕ → Type 0) (other : (w : List ℕ) (i x : ℕ) → (i �
         added = λ p w o i h. keeps-contributed w p o h;
         decided = λ w h. other w decidedAt 1 (λ e. omega arith) h;
       };
-      handles = record {
-        entries = record { entered = λ p m w t r g h. keeps-decryption w p (entryAfter (r .verdict) (r .state)) h; dropped = λ w o h. h };
-        inputs = still-inputs;
-        reads = tt;
-        unreadable = λ p. tt;
-        listed = λ i m w t r g h. g tt tt h;
-        opened = λ p value w u h. keeps-decryption w p (complete value) h;
-        accepted = λ p w i h. keeps-accept w p h;
-      };
-      finishes = record { late = λ a. tt; finished = λ p w h. keeps-dropped w p h; unexpected = λ p w h. keeps-decryption _ p missing (keeps-dropped w p h) };
+      handles = handles-hold n P (λ p d w h. keeps-decryption w p d h) (λ p w h. keeps-accept w p h);
+      finishes = finishes-hold n P (λ p d w h. keeps-decryption w p d h) (λ p w h. keeps-dropped w p h);
       emptied = λ m w t r g h. keeps-first 0 (r .state) (g h);
       cut = λ m w t r g h. keeps-first (countOf w) (r .state) (g h);
       done = λ w h. keeps-complete w h;

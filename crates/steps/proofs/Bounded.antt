@@ -82,11 +82,6 @@ module _ {S A : Type 0} (more : ℕ) (p : Tape) where
   unfolding ask
   bounded-ask kind s k f = let u = for-fewer (λ r. eqb (r .kind) kind) p in heard-bounded more p _ s k (u .got) (u .left) f
 
-  pub bounded-about : (kind who : ℕ) (s : S) (k : ℕ → ℕ → Tape → Run S A) → ((a b : ℕ) (q : Tape) → Bounded (more + 1) q (k a b q))
-      → Bounded more p (heard (askAbout p kind who) s k)
-  unfolding askAbout
-  bounded-about kind who s k f = let u = for-fewer (λ r. eqb (r .kind) kind && eqb (r .b) who) p in heard-bounded more p _ s k (u .got) (u .left) f
-
 -- Rust's `?`: what both parts may write. The second is asked for only where the first goes on
 pub bounded-then : {S A B : Type 0} (m more : ℕ) (p : Tape) (r : Run S A) (k : A → S → Tape → Run S B) → Bounded m p r
     → ((a : A) → r .verdict ≡ going a → Bounded more (r .tape) (k a (r .state) (r .tape))) → Bounded (m + more) p (onward r k)
@@ -189,9 +184,6 @@ module _ (content : Content) (proposer : ℕ) where
           rw (parts-on content proposer o i r rs e)
           (omega (arith, length-append (partEntries content proposer (r .kind) (r .a) (r .b)) (later .log), part-one content proposer (r .kind) (r .a) (r .b)))
       go false e h = rw (parts-off content proposer o i r rs e) (omega arith)
-
-  pub bounded-parts : {S : Type 0} (s : S) (p : Tape) → Bounded 0 p (readParts content proposer s p)
-  bounded-parts s p = record { short = omega (arith, parts-few Missing (p .place) (p .rest)) }
 
   pub spends-parts : {S : Type 0} (n : ℕ) (s : S) (p : Tape) → Spends (λ o. hand (given o) 0) (hand none n) p (readParts content proposer s p)
   unfolding left

@@ -4,7 +4,7 @@ use Rattle.steps.specs.declared.reader.Answer.{Answer}
 use Rattle.steps.specs.declared.reader.Answer.the-variants.{Got, Refused}
 use Rattle.steps.specs.Answers.{Tape, Asked, ask, askAbout}
 use Rattle.steps.specs.Runs.{Verdict, going, refused, failed, Run, onwardAs, onward, heardAs, heard}
-use Rattle.steps.proofs.Logic.{about, Logic}
+use Rattle.steps.proofs.Logic.{about, anything, Logic}
 
 module _ {S : Type 0} (P : S → Type 0) where
   pub keeps-heard : {A : Type 0} (q : Asked) (s : S) (k : ℕ → ℕ → Tape → Run S A) → ((a b : ℕ) (p : Tape) → P (k a b p .state)) → P s → P (heard q s k .state)
@@ -40,3 +40,7 @@ module _ {S : Type 0} (P : S → Type 0) where
     spares = λ A n left all s p r e g. g;
     goesOn = λ A B f g h s p r k l m i. keeps-onward r k (l i) (λ a t q. m a t q);
   }
+
+-- of a state of which nothing is said
+abbrev pub still : {S : Type 0} → Logic anything S
+still = holding (λ s. Unit {0}) (λ i. Unit {0})
