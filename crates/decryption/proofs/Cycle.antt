@@ -35,7 +35,7 @@ cond-cong false p q = q
 pub remove-ended : (x : Bool) (td : ThresholdDecrypt) (p : Tape) → td .terminated ≡ x → removeInvalidShares td p .state .terminated ≡ x
 remove-ended x td p e =
     let P : ThresholdDecrypt → Type 0 = λ s. s .terminated ≡ x in
-    remove-keeps anything (holding P) (record { reads = λ k e. tt; faults = λ k a e. tt; share = λ td i v u h. h; removed = λ td i h. h }) 16 0 0 td p e
+    remove-keeps anything (holding P (λ i. Unit {0})) (record { reads = λ k e. tt; faults = λ k a e. tt; share = λ td i v u h. h; removed = λ td i h. h }) 16 0 0 td p e
 
 -- a validator has an index among the sixteen
 pub own-below : (net : NetworkInfo) → Network net → (isValidator net && net .«has_key») ≡ true → net .«our_id» < 16

@@ -4,9 +4,9 @@ use mathlib.Core.Path.{_≡_, refl, sym, ap, _∙_}
 use mathlib.Core.List.{[], _∷_}
 use mathlib.Core.Bool.{Bool, true, false, cond, false≢true}
 use mathlib.Core.Option.{Option, none}
-use lib.ListN.{set}
+use lib.ListN.{getD, set}
 use lib.Dec.{leb, eqb}
-use borrow.Author.Tests.{eqb-true, eqb-false, not-true, ne-eqb}
+use borrow.Author.Tests.{eqb-true, eqb-false, leb-true, leb-false, not-true, ne-eqb}
 use Rattle.steps.specs.declared.network_info.NetworkInfo.{NetworkInfo}
 use Rattle.steps.specs.declared.reader.Answer.the-variants.{Got}
 use Rattle.steps.specs.Answers.{Tape, asked, askAbout}
@@ -19,9 +19,9 @@ use Rattle.decryption.specs.Decrypt.{withShares, withInput, withEnd, isS
 use Rattle.decryption.specs.declared.ThresholdDecrypt.{ThresholdDecrypt}
 use Rattle.decryption.specs.declared.Validity.the-variants.{Valid}
 use Rattle.decryption.proofs.Ends.{ends-cond, ends-heard}
-use Rattle.decryption.proofs.Cycle.{cond-cong, start-redundant, start-onward}
+use Rattle.decryption.proofs.Cycle.{cond-cong, start-redundant, start-onward, try-few, try-none}
 use Rattle.decryption.proofs.Walk.{Does, Checks, Combines, set-keeps as set-walk, remove-keeps as remove-walk, start-keeps as start-walk, try-keeps as try-walk, store-keeps as store-walk, handle-keeps as handle-walk}
-use Rattle.decryption.proofs.Messages.{store-again, handle-valid}
+use Rattle.decryption.proofs.Messages.{store-first, store-again, handle-ended, handle-valid}
 use Rattle.decryption.proofs.Laws.{valid-early, valid-told}
 
 -- `CIPHERTEXTISNONE` CANNOT ARISE. Once the ciphertext is set the instance has it
@@ -69,10 +69,11 @@ module _ (c : ℕ) where
   abbrev Has : ThresholdDecrypt → Type 0
   Has td = td .ciphertext ≡ c
 
-  still : Combines anything (holding Has)
+  still : Combines anything (holding Has (λ i. Unit {0}))
   still = record {
     checks = record { reads = λ k e. tt; faults = λ k a e. tt; share = λ td i v u h. h; removed = λ td i h. h };
     sends = λ a b. tt;
+    text = tt;
     number = tt;
     input = λ td h. h;
     end = λ td h. h;
@@ -80,16 +81,16 @@ module _ (c : ℕ) where
 
 module _ (net : NetworkInfo) (proposer : ℕ) where
   pub start-keeps : (td : ThresholdDecrypt) (p : Tape) → startDecryption net proposer td p .state .ciphertext ≡ td .ciphertext
-  start-keeps td p = start-walk anything (holding (Has (td .ciphertext))) net proposer (still (td .ciphertext)) 0 td p refl
+  start-keeps td p = start-walk anything (holding (Has (td .ciphertext)) (λ i. Unit {0})) net proposer (still (td .ciphertext)) 0 td p refl
 
   pub try-keeps : (td : ThresholdDecrypt) (p : Tape) → tryOutput net proposer td p .state .ciphertext ≡ td .ciphertext
-  try-keeps td p = try-walk anything (holding (Has (td .ciphertext))) net proposer (still (td .ciphertext)) 0 td p refl
+  try-keeps td p = try-walk anything (holding (Has (td .ciphertext)) (λ i. Unit {0})) net proposer (still (td .ciphertext)) 0 td p refl
 
   pub store-keeps : (sender share : ℕ) (td : ThresholdDecrypt) (p : Tape) → storeShare net proposer sender share td p .state .ciphertext ≡ td .ciphertext
-  store-keeps sender share td p = store-walk anything (holding (Has (td .ciphertext))) net proposer (still (td .ciphertext)) sender share tt 0 td p refl
+  store-keeps sender share td p = store-walk anything (holding (Has (td .ciphertext)) (λ i. Unit {0})) net proposer (still (td .ciphertext)) sender share tt 0 td p refl
 
   pub handle-keeps : (sender share : ℕ) (td : ThresholdDecrypt) (p : Tape) → handleMessage net proposer sender share td p .state .ciphertext ≡ td .ciphertext
-  handle-keeps sender share td p = handle-walk anything (holding (Has (td .ciphertext))) net proposer (still (td .ciphertext)) sender share tt 0 td p refl
+  handle-keeps sender share td p = handle-walk anything (holding (Has (td .ciphertext)) (λ i. Unit {0})) net proposer (still (td .ciphertext)) sender share tt 0 td p refl
 
 -- A DUPLICATE SHARE COMBINES NOTHING. It overwrites the first and is fault 6, and nothing is asked but whether it is valid
 module _ (net : NetworkInfo) (proposer sender share : ℕ) (td : ThresholdDecrypt) (p : Tape) (e : td .terminated ≡ false) (s : isSender td sender ≡ true) where
@@ -101,12 +102,31 @@ module _ (net : NetworkInfo) (proposer sender share : ℕ) (td : ThresholdDecryp
       handle-valid net proposer sender share td p Valid q (sym (valid-told sender td p _ q k z a b refl ∙ rw (ne-eqb _ _ y))) e refl
       ∙ store-again net proposer sender share td q (eqb-false _ _ (not-true _ s))
 
+-- WITHOUT A CIPHERTEXT a share combines nothing, whether it is kept, a duplicate or late
+pub early-none : (net : NetworkInfo) (proposer sender share : ℕ) (td : ThresholdDecrypt) (p : Tape) → td .ciphertext ≡ 0 → handleMessage net proposer sender share td p .verdict ≡ going none
+early-none net proposer sender share td p z = ended (td .terminated) refl
+  where
+    kept : ThresholdDecrypt
+    kept = withShares td (set (td .shares) sender share)
+
+    few : td .terminated ≡ false → (x : Bool) → leb (countShares (kept .shares)) (net .«num_faulty») ≡ x → tryOutput net proposer kept p .verdict ≡ going none
+    few e true l = rw (try-few net proposer kept p e (leb-true _ _ l))
+    few e false l = rw (try-none net proposer kept p e (leb-false _ _ l) z)
+
+    first : td .terminated ≡ false → (x : Bool) → eqb (getD (td .shares) sender 0) 0 ≡ x → storeShare net proposer sender share td p .verdict ≡ going none
+    first e true s = rw (store-first net proposer sender share td p (eqb-true _ _ s)) (few e (leb (countShares (kept .shares)) (net .«num_faulty»)) refl)
+    first e false s = rw (store-again net proposer sender share td p (eqb-false _ _ s))
+
+    ended : (x : Bool) → td .terminated ≡ x → handleMessage net proposer sender share td p .verdict ≡ going none
+    ended true e = rw (handle-ended net proposer sender share td p e)
+    ended false e = rw (handle-valid net proposer sender share td p Valid p (sym (valid-early sender td p z)) e refl) (first e (eqb (getD (td .shares) sender 0) 0) refl)
+
 -- 24 AND 25 ARE THE ONLY FAILURES, 25 of setting a ciphertext, 24 of the others. Checking shares fails with no number
 abbrev checking : (ok : ℕ → Bool) → Checks (numbers ok) (failing ok ThresholdDecrypt)
 checking ok = record { reads = λ k e. tt; faults = λ k a e. tt; share = λ td i v u. tt; removed = λ td i. tt }
 
 pub rules : (ok : ℕ → Bool) → ok 24 ≡ true → Combines (numbers ok) (failing ok ThresholdDecrypt)
-rules ok e = record { checks = checking ok; sends = λ a b. tt; number = e; input = λ td. tt; end = λ td. tt }
+rules ok e = record { checks = checking ok; sends = λ a b. tt; text = tt; number = e; input = λ td. tt; end = λ td. tt }
 
 pub set-fails : (proposer ciphertext : ℕ) (td : ThresholdDecrypt) (p : Tape) (m : ℕ) → setCiphertext proposer ciphertext td p .verdict ≡ failed m → m ≡ 25
 set-fails proposer ciphertext td p m e = eqb-true m 25 (only-number (λ n. eqb n 25) _ m (set-walk _ (failing (λ n. eqb n 25) ThresholdDecrypt) proposer ciphertext tt refl (λ td. tt) 0 td p) e)

@@ -36,7 +36,7 @@ input-ok td h = record { ciphertext = h .ciphertext; shares = h .shares }
 end-ok : (td : ThresholdDecrypt) → InstanceOk td → InstanceOk (withEnd td)
 end-ok td h = record { ciphertext = h .ciphertext; shares = h .shares }
 
-set-ok : (td : ThresholdDecrypt) (c : ℕ) → InstanceOk td → c < 0x1_0000_0000 → InstanceOk (withCiphertext td c)
+pub set-ok : (td : ThresholdDecrypt) (c : ℕ) → InstanceOk td → c < 0x1_0000_0000 → InstanceOk (withCiphertext td c)
 set-ok td c h l = record { ciphertext = l; shares = h .shares }
 
 pub rules : (n : ℕ) → Combines (small n) (keeping n InstanceOk)
@@ -49,6 +49,7 @@ rules n = record {
     removed = λ td i h u. (share-ok td i 0 h (omega arith), tt);
   };
   sends = λ a b. tt;
+  text = tt;
   number = tt;
   input = λ td h u. (input-ok td h, tt);
   end = λ td h u. (end-ok td h, tt);

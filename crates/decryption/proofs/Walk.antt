@@ -44,6 +44,7 @@ module _ (T : Terms) (L : Logic T ThresholdDecrypt) where
   pub record Combines : Type 0 where
     pub checks : Checks
     pub sends : (a b : ℕ) → T .Writes (message 3 a b)
+    pub text : T .Text
     pub number : T .Number 24
     pub input : (td : ThresholdDecrypt) → L .Step none td none (withInput td)
     pub end : (td : ThresholdDecrypt) → L .Step none td none (withEnd td)
@@ -120,7 +121,7 @@ module _ (T : Terms) (L : Logic T ThresholdDecrypt) where
     combine-keeps : Keeps (λ _. plaintext) combine
     unfolding combine
     combine-keeps n td p =
-        L .asksText _ _ n td p _ (λ a b q _.
+        L .asksText _ _ n td p _ (R .text) (λ a b q _.
         test L (eqb a 0) (λ _. L .fails _ _ _ 24 td q (R .number)) (λ _. L .goes _ _ _ (some b) td q refl (omega arith)))
 
     -- where k hands up nothing
@@ -166,6 +167,7 @@ pub any-combines : (L : Logic anything ThresholdDecrypt) → ((s t : ThresholdDe
 any-combines L step = record {
   checks = record { reads = λ k e. tt; faults = λ k a e. tt; share = λ td i v u. step td _; removed = λ td i. step td _ };
   sends = λ a b. tt;
+  text = tt;
   number = tt;
   input = λ td. step td _;
   end = λ td. step td _;

@@ -19,8 +19,6 @@ use Rattle.steps.specs.Times.{timesAsked}
 use Rattle.steps.proofs.Chains.{Bit, Good}
 use Rattle.steps.proofs.Past.{Past, past-good}
 use Rattle.steps.proofs.Times.{past-times}
-use Rattle.decryption.specs.declared.ThresholdDecrypt.{ThresholdDecrypt}
-use Rattle.decryption.specs.Decrypt.{handleMessage as handleShare}
 use Rattle.subset.specs.Words.{statusAt, decidedAt, acceptedAt, countAt, recordAt, proposalAt, valueAt, arrivalAt}
 use Rattle.subset.specs.Subset.{propose as proposeSubset, handleMessage as handleSubset}
 use Rattle.subset.specs.Rule.{isOver}
@@ -32,14 +30,15 @@ use Rattle.epochwords.specs.declared.SubsetHandlingStrategy.{SubsetHandlingStra
 use Rattle.epochwords.specs.declared.SubsetHandlingStrategy.the-variants.{Incremental, AllAtEnd}
 use Rattle.epoch.specs.declared.MessageContent.{MessageContent}
 use Rattle.epoch.specs.declared.MessageContent.the-variants.{Subset, DecryptionShare}
-use Rattle.epochwords.specs.Words.{isAccepted, missing, complete, loadEntry, loadDecryption, storeDecryption}
-use Rattle.epoch.proofs.Shares.{by-entry, by-share}
-use Rattle.epoch.specs.Epoch.{firstContributions, handlesNow, subsetComplete, proposalDropped, entryAfter, processDecryption, callEntry, inputCiphertext, sendDecryptionShare, handleDecryptionShare, finishAt, finishFrom, handleContribution, handleFrom, handleContributions, processSubset, handedUp, callSubset, propose, handleMessageContent}
+use Rattle.epochwords.specs.Words.{isAccepted, DecryptionState, missing, complete, loadEntry, loadDecryption, storeDecryption}
+use Rattle.epoch.proofs.Orderly.{Orderly, Any, quiet-fault, orders, ordering}
+use Rattle.epoch.proofs.Walk.{Entries, Finishes, entry-keeps, share-message-keeps, finish-keeps}
+use Rattle.epoch.specs.Epoch.{firstContributions, handlesNow, subsetComplete, proposalDropped, entryAfter, callEntry, inputCiphertext, sendDecryptionShare, handleDecryptionShare, finishFrom, handleContribution, handleFrom, handleContributions, processSubset, handedUp, callSubset, propose, handleMessageContent}
 use Rattle.epoch.proofs.Told.{shareOf, Told}
-use Rattle.epoch.proofs.Passes.{subsetKinds, subset-eight, entryKinds, entry-eight, outside-accepted, outside-record, Frame, share-runs, input-runs}
+use Rattle.epoch.proofs.Passes.{subsetKinds, subset-eight, entryKinds, entry-eight, outside-accepted, outside-record, Frame, inputs, input-runs}
 use Rattle.epoch.proofs.Texts.{reads-past, after-with, after-both, after-any}
 use Rattle.epochwords.proofs.Entries.{accepted-kept, store-low}
-use Rattle.epoch.proofs.Handled.{text-words, text-value, process-after, TextsOk}
+use Rattle.epoch.proofs.Handled.{text-words, text-value, TextsOk}
 use Rattle.epoch.proofs.Contributions.{held-same, Contributed, contribution-ok, output-value}
 use Rattle.epoch.proofs.Finishing.{cut-word}
 use Rattle.epoch.proofs.Holds.{handledBy, Going, Done, Holds}
@@ -65,26 +64,45 @@ record Unasked (w : List ℕ) (ws : List Rec) (w′ : List ℕ) (r : List Rec) :
 unasked : (encrypted : Bool) (n : ℕ) (w : List ℕ) (ws : List Rec) (w′ : List ℕ) (r : List Rec) → Unasked w ws w′ r → Tallied encrypted n w ws w′ r
 unasked encrypted n w ws w′ r h q l = rw (accepted-kept w w′ (h .accepted) q, h .times q)
 
--- A CALL OF AN ENTRY asks no 8
-module _ (net : NetworkInfo) (p : ℕ) (w : List ℕ) (u : Tape) where
-  process-unasked : (r : Run ThresholdDecrypt (Option ℕ)) → Past entryKinds (u .rest) (r .tape .rest) → After (processDecryption net p w r) (λ _ w′ z. Unasked w (u .rest) w′ (z .rest))
-  process-unasked r k =
-      process-after net p w r (λ w′ z. Unasked w (u .rest) w′ (z .rest))
-      (after-map r _ _ (after-with r (λ _ _ _. Unit {0}) (λ _ z. Past entryKinds (u .rest) (z .rest)) k (after-any r _ (λ _ _ _. tt))) (λ o td z h. record {
-        accepted = store-low (net .«num_nodes») p w (entryAfter (going o) td) acceptedAt (omega arith);
-        times = past-times entryKinds 8 entry-eight (h .1);
-      }))
+-- RUNS THAT ACCEPT NOBODY and read answers of kinds other than 8
+module _ (n : ℕ) (w : List ℕ) where
+  abbrev Same : List ℕ → Type 0
+  Same v = getD v acceptedAt 0 ≡ getD w acceptedAt 0
 
-  entry-unasked : (call : ThresholdDecrypt → Tape → Run ThresholdDecrypt (Option ℕ)) → ((td : ThresholdDecrypt) → Past entryKinds (u .rest) (call td u .tape .rest))
-      → After (callEntry net p call w u) (λ _ w′ z. Unasked w (u .rest) w′ (z .rest))
-  entry-unasked call k =
-      by-entry net p w u (λ r. After r (λ _ w′ z. Unasked w (u .rest) w′ (z .rest))) call
-      (process-unasked (call (loadEntry (net .«num_nodes») w p) u) (k (loadEntry (net .«num_nodes») w p))) (record { accepted = refl; times = λ q. refl })
+  same-stored : (p : ℕ) (d : DecryptionState) (v : List ℕ) → Same v → Same (storeDecryption n v p d)
+  same-stored p d v h = store-low n p v d acceptedAt (omega arith) ∙ h
+
+  same-dropped : (p : ℕ) (v : List ℕ) → Same v → Same (proposalDropped n v p)
+  unfolding proposalDropped
+  same-dropped p v h =
+      getD-set-other (set v (proposalAt n p) 0) (valueAt n p) acceptedAt 0 0 (λ e. omega arith) ∙ getD-set-other v (proposalAt n p) acceptedAt 0 0 (λ e. omega arith) ∙ h
+
+  entries : Entries (orders entryKinds) (ordering entryKinds Any) (ordering entryKinds Same) n
+  entries = record {
+    entered = λ p m v t r g h. let k = g tt in record { state = same-stored p (entryAfter (r .verdict) (r .state)) v h; past = k .past; quiet = k .quiet };
+    dropped = λ v o h. h;
+  }
+
+  finishes : Finishes (orders entryKinds) (ordering entryKinds Any) (ordering entryKinds Same) n
+  finishes = record { late = λ a. quiet-fault 2 a 0 refl; finished = λ p v h. same-dropped p v h; unexpected = λ p v h. same-stored p missing _ (same-dropped p v h) }
+
+  orderly-unasked : (u : Tape) (r : Run (List ℕ) (Unit {0})) → Orderly Same entryKinds u r → After r (λ _ w′ z. Unasked w (u .rest) w′ (z .rest))
+  orderly-unasked u r k =
+      after-map r _ _ (after-with r (λ _ _ _. Unit {0}) (λ w′ z. Same w′ × Past entryKinds (u .rest) (z .rest)) (k .state, k .past) (after-any r _ (λ _ _ _. tt))) (λ _ w′ z h. record {
+        accepted = h .1 .0;
+        times = past-times entryKinds 8 entry-eight (h .1 .1);
+      })
+
+-- a call of an entry, and a share
+module _ (net : NetworkInfo) (p : ℕ) (w : List ℕ) (u : Tape) where
+  entry-unasked : (value : ℕ) → After (callEntry net p (inputCiphertext net p value) w u) (λ _ w′ z. Unasked w (u .rest) w′ (z .rest))
+  entry-unasked value =
+      orderly-unasked (net .«num_nodes») w u _
+      (entry-keeps _ _ _ net (entries _ w) p (inputCiphertext net p value) 0 w u (λ _. input-runs net p value (loadEntry (net .«num_nodes») w p) u) refl)
 
   share-unasked : (sender share : ℕ) → After (handleDecryptionShare net sender p share w u) (λ _ w′ z. Unasked w (u .rest) w′ (z .rest))
   share-unasked sender share =
-      by-share net p w u (λ r. After r (λ _ w′ z. Unasked w (u .rest) w′ (z .rest))) sender share (record { accepted = refl; times = λ q. refl })
-      (entry-unasked (handleShare net p sender share) (λ td. share-runs net p sender share td u .past))
+      orderly-unasked (net .«num_nodes») w u _ (share-message-keeps _ _ _ net (entries _ w) (inputs entryKinds (λ k e. e) .combines) (λ a. quiet-fault 2 a 0 refl) sender p share tt 0 w u refl)
 
 -- A CONTRIBUTION asks one 8, about its proposer
 abbrev Asks : Bool → ℕ → List Rec → List Rec → Type 0
@@ -101,7 +119,7 @@ module _ (net : NetworkInfo) (p value : ℕ) (w : List ℕ) (u : Tape) where
       after-about u 8 w _ _ p (λ a b z r.
       after-cond (eqb a 0) _ _ _ (reads-one p u z r)
       (after-map (callEntry net p (inputCiphertext net p value) w z) _ _
-      (entry-unasked net p w z (inputCiphertext net p value) (λ td. input-runs net p value td z .past)) (λ _ w′ y k q.
+      (entry-unasked net p w z value) (λ _ w′ y k q.
       reads-one p u z r q ∙ ap (λ x. once true (eqb p q) + x) (k .times q))))
 
   contribution-asks : (strategy : SubsetHandlingStrategy) (encrypted : Bool) → After (handleContribution net strategy encrypted p value w u) (λ _ w′ z. Asks encrypted p (u .rest) (z .rest))
@@ -177,27 +195,8 @@ module _ (net : NetworkInfo) (strategy : SubsetHandlingStrategy) (encrypted : Bo
 
 -- THE END of the subset
 module _ (net : NetworkInfo) where
-  finish-at-unasked : (p : ℕ) (w : List ℕ) (u : Tape) → After (finishAt net p w u) (λ _ w′ z. Unasked w (u .rest) w′ (z .rest))
-  unfolding finishAt proposalDropped
-  finish-at-unasked p w u =
-      after-cond (isAccepted w p) _ _ _ (record { accepted = low; times = λ q. refl })
-      (record { accepted = store-low (net .«num_nodes») p (set (set w (proposalAt (net .«num_nodes») p) 0) (valueAt (net .«num_nodes») p) 0) missing acceptedAt (omega arith) ∙ low; times = λ q. refl })
-    where
-      low : getD (set (set w (proposalAt (net .«num_nodes») p) 0) (valueAt (net .«num_nodes») p) 0) acceptedAt 0 ≡ getD w acceptedAt 0
-      low =
-          getD-set-other (set w (proposalAt (net .«num_nodes») p) 0) (valueAt (net .«num_nodes») p) acceptedAt 0 0 (λ e. omega arith)
-          ∙ getD-set-other w (proposalAt (net .«num_nodes») p) acceptedAt 0 0 (λ e. omega arith)
-
   finish-unasked : (m p : ℕ) (w : List ℕ) (u : Tape) → After (finishFrom net m p w u) (λ _ w′ z. Unasked w (u .rest) w′ (z .rest))
-  unfolding finishFrom
-  finish-unasked zero p w u = record { accepted = refl; times = λ q. refl }
-  finish-unasked (suc m) p w u =
-      after-onward (finishAt net p w u) _ _
-      (after-map (finishAt net p w u) _ _ (finish-at-unasked p w u) (λ _ w₁ z a.
-      after-map (finishFrom net m (p + 1) w₁ z) _ _ (finish-unasked m (p + 1) w₁ z) (λ _ w₂ y b. record {
-        accepted = b .accepted ∙ a .accepted;
-        times = λ q. a .times q ∙ b .times q;
-      })))
+  finish-unasked m p w u = orderly-unasked (net .«num_nodes») w u _ (finish-keeps _ (ordering entryKinds Any) _ net (finishes _ w) m p w u refl)
 
   module _ (strategy : SubsetHandlingStrategy) (encrypted : Bool) (old : ℕ → Bool) (v d t : ℕ → Option ℕ) where
     abbrev M : ℕ

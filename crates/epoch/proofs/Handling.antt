@@ -4,7 +4,6 @@ use native.Mathlib.Omega.{arith}
 use mathlib.Core.Path.{_≡_, refl, sym, ap, _∙_}
 use mathlib.Core.List.{List, [], _∷_, _++_, append-nil}
 use mathlib.Core.Bool.{Bool, true, false, cond}
-use mathlib.Core.Option.{Option}
 use lib.ListN.{length, getD, set, drop, replicate, length-replicate}
 use lib.Seq.{getD-set-same, getD-set-other, set-out, set-at, drop-cons, drop-length}
 use lib.Dec.{eqb, ltb}
@@ -12,24 +11,23 @@ use borrow.Author.Tests.{eqb-true, eqb-false, ltb-true, ltb-false}
 use types.Run.{OneOf, miss}
 use denote.Enum.Declared.{tagOf}
 use Rattle.steps.specs.declared.network_info.NetworkInfo.{NetworkInfo}
-use Rattle.steps.specs.declared.reader.Answer.{Answer}
-use Rattle.steps.specs.declared.reader.Answer.the-variants.{Got, Refused as NoAnswer}
-use Rattle.steps.specs.Answers.{Tape, askAbout}
-use Rattle.steps.specs.Steps.{Out, putAll, fault}
-use Rattle.steps.specs.Runs.{Verdict, going, refused, failed, Run, ends, before, onwardAs, onward, heardAs, heard, Left, leaves}
+use Rattle.steps.specs.Answers.{Tape}
+use Rattle.steps.specs.Steps.{Out, putAll}
+use Rattle.steps.specs.Runs.{Verdict, going, ends, onwardAs, onward, Left, leaves}
 use Rattle.steps.proofs.Runs.{onward-go, onward-stop}
-use Rattle.decryption.specs.declared.ThresholdDecrypt.{ThresholdDecrypt}
 use Rattle.decryption.specs.Decrypt.{new}
-use Rattle.subset.specs.Words.{epochLength, newEpoch, acceptedAt, countAt, countOf, recordAt, valueAt, arrivalAt, contributor, dropFrom}
+use Rattle.subset.specs.Words.{epochLength, newEpoch, countAt, valueAt, arrivalAt, contributor, dropFrom}
 use Rattle.epochwords.specs.declared.SubsetHandlingStrategy.{SubsetHandlingStrategy}
 use Rattle.epochwords.specs.declared.SubsetHandlingStrategy.the-variants.{Incremental, AllAtEnd}
 use Rattle.epoch.specs.declared.epoch_state.Outcome.{Outcome}
 use Rattle.epoch.specs.declared.epoch_state.Outcome.the-variants.{Done, Refused, Failed}
 use Rattle.epochwords.specs.Shape.{Listed}
-use Rattle.epochwords.specs.Words.{accept, DecryptionState, complete, storeEntry, storeDecryption, entryComplete}
-use Rattle.epoch.specs.Epoch.{entryAfter, handlesNow, subsetComplete, processDecryption, callEntry, inputCiphertext, sendDecryptionShare, finishFrom, handleContribution, handleFrom, handleContributions, processSubset}
+use Rattle.epochwords.specs.Words.{accept, DecryptionState, storeEntry, storeDecryption, entryComplete}
+use Rattle.epoch.specs.Epoch.{handlesNow, subsetComplete, sendDecryptionShare, finishFrom, handleContribution, handleFrom, handleContributions, processSubset}
 use Rattle.epoch.specs.Outcomes.{outcomeVerdict, leftDone}
-use Rattle.epoch.proofs.Shares.{by-entry}
+use Rattle.steps.proofs.Logic.{anything}
+use Rattle.steps.proofs.States.{still}
+use Rattle.epoch.proofs.Walk.{Handles, holds, handles-hold, contribution-keeps, handle-from-keeps}
 use Rattle.epochwords.proofs.Entries.{accept-word, store-low, store-subset}
 use Rattle.epoch.proofs.epoch_state.Outcome.{the-type as outcome-type}
 
@@ -40,85 +38,33 @@ not-done Refused h a e = let z : _≡_ {A = ℕ} 0 1 = cc in omega arith
 not-done (Failed n) h a e = let z : _≡_ {A = ℕ} 0 1 = cc in omega arith
 
 -- THE LIST of contributions stays while they are handled
-module _ (net : NetworkInfo) where
-  listed-store : (w : List ℕ) (p : ℕ) (d : DecryptionState) → Listed (net .«num_nodes») w → Listed (net .«num_nodes») (storeDecryption (net .«num_nodes») w p d)
-  listed-store w p d h =
+module _ (n : ℕ) where
+  listed-store : (p : ℕ) (d : DecryptionState) (w : List ℕ) → Listed n w → Listed n (storeDecryption n w p d)
+  listed-store p d w h =
       record {
-        count = rw (store-low (net .«num_nodes») p w d countAt (omega arith)) (h .count);
-        who = λ i l. rw (store-subset (net .«num_nodes») p w d i 7 (omega arith) (λ e. refl)) (h .who i l);
+        count = rw (store-low n p w d countAt (omega arith)) (h .count);
+        who = λ i l. rw (store-subset n p w d i 7 (omega arith) (λ e. refl)) (h .who i l);
       }
 
-  listed-accept : (w : List ℕ) (p : ℕ) → Listed (net .«num_nodes») w → Listed (net .«num_nodes») (accept w p)
-  listed-accept w p h =
+  listed-accept : (p : ℕ) (w : List ℕ) → Listed n w → Listed n (accept w p)
+  listed-accept p w h =
       record {
         count = rw (accept-word w p countAt (λ e. omega arith)) (h .count);
-        who = λ i l. rw (accept-word w p (arrivalAt (net .«num_nodes») i) (λ e. omega arith)) (h .who i l);
+        who = λ i l. rw (accept-word w p (arrivalAt n i) (λ e. omega arith)) (h .who i l);
       }
 
-  listed-process : (p : ℕ) (w : List ℕ) (r : Run ThresholdDecrypt (Option ℕ)) → Listed (net .«num_nodes») w → Listed (net .«num_nodes») (processDecryption net p w r .state)
-  unfolding processDecryption onward onwardAs
-  listed-process p w r h = go (r .verdict) (listed-store w p (entryAfter (r .verdict) (r .state)) h)
-    where
-      go : (v : Verdict (Option ℕ)) {s : List ℕ} → Listed (net .«num_nodes») s
-          → Listed (net .«num_nodes») (onwardAs v (record { state = s; verdict = r .verdict; tape = r .tape; log = r .log }) (λ _ w t. ends {A = Unit {0}} (going tt) w t) .state)
-      go (going a) k = k
-      go refused k = k
-      go (failed c) k = k
+  rules : Handles anything still (holds n (Listed n) listed-store) n
+  rules = handles-hold n (Listed n) listed-store listed-accept
 
-  listed-call : (p : ℕ) (call : ThresholdDecrypt → Tape → Run ThresholdDecrypt (Option ℕ)) (w : List ℕ) (t : Tape) → Listed (net .«num_nodes») w → Listed (net .«num_nodes») (callEntry net p call w t .state)
-  listed-call p call w t h = by-entry net p w t (λ r. Listed (net .«num_nodes») (r .state)) call (listed-process p w _ h) h
+-- as the code leaves it
+module _ (net : NetworkInfo) (strategy : SubsetHandlingStrategy) (encrypted : Bool) where
+  pub kept-contribution : (p value : ℕ) (w : List ℕ) (t : Tape) (o : Out) (d : Left (List ℕ) (Unit {0})) → d ≡ leaves o (handleContribution net strategy encrypted p value w t)
+      → Listed (net .«num_nodes») w → Listed (net .«num_nodes») (d .state)
+  kept-contribution p value w t o d e h = rw e (contribution-keeps _ _ _ net (rules _) strategy encrypted p value tt tt 0 w t h)
 
-  listed-send : (p value : ℕ) (w : List ℕ) (t : Tape) → Listed (net .«num_nodes») w → Listed (net .«num_nodes») (sendDecryptionShare net p value w t .state)
-  unfolding sendDecryptionShare heard heardAs
-  listed-send p value w t h = go (askAbout t 8 p .answer)
-    where
-      by : (x : Bool) (q : Tape) (o : Run (List ℕ) (Unit {0})) → o .state ≡ w → Listed (net .«num_nodes») (cond x o (callEntry net p (inputCiphertext net p value) w q) .state)
-      by true q o e = rw e h
-      by false q o e = listed-call p (inputCiphertext net p value) w q h
-
-      go : (x : Answer) → Listed (net .«num_nodes») (heardAs x w (askAbout t 8 p .tape)
-          (λ a b q. cond (eqb a 0) (before (fault 3 p 0 ∷ []) (ends (going tt) w q)) (callEntry net p (inputCiphertext net p value) w q)) .state)
-      go (Got a b) = by (eqb a 0) (askAbout t 8 p .tape) (before (fault 3 p 0 ∷ []) (ends (going tt) w (askAbout t 8 p .tape))) refl
-      go NoAnswer = h
-
-  module _ (strategy : SubsetHandlingStrategy) (encrypted : Bool) where
-    listed-contribution : (p value : ℕ) (w : List ℕ) (t : Tape) → Listed (net .«num_nodes») w → Listed (net .«num_nodes») (handleContribution net strategy encrypted p value w t .state)
-    unfolding handleContribution onward onwardAs
-    listed-contribution p value w t h = by encrypted
-      where
-        go : (r : Run (List ℕ) (Unit {0})) → Listed (net .«num_nodes») (r .state) → (v : Verdict (Unit {0}))
-            → Listed (net .«num_nodes») (onwardAs v r (λ _ w t. ends {A = Unit {0}} (going tt) (accept w p) t) .state)
-        go r k (going a) = listed-accept (r .state) p k
-        go r k refused = k
-        go r k (failed c) = k
-
-        by : (x : Bool) → Listed (net .«num_nodes») (onward (cond x (sendDecryptionShare net p value w t) (ends (going tt) (storeDecryption (net .«num_nodes») w p (complete value)) t)) (λ _ w t. ends {A = Unit {0}} (going tt) (accept w p) t) .state)
-        by true = go (sendDecryptionShare net p value w t) (listed-send p value w t h) (sendDecryptionShare net p value w t .verdict)
-        by false = go (ends (going tt) (storeDecryption (net .«num_nodes») w p (complete value)) t) (listed-store w p (complete value) h) (going tt)
-
-    listed-from : (m i : ℕ) (w : List ℕ) (t : Tape) → Listed (net .«num_nodes») w → Listed (net .«num_nodes») (handleFrom net strategy encrypted m i w t .state)
-    unfolding handleFrom onward onwardAs
-    listed-from zero i w t h = h
-    listed-from (suc m) i w t h = go first (listed-contribution _ _ w t h) (first .verdict) (λ w t k. listed-from m (i + 1) w t k)
-      where
-        first : Run (List ℕ) (Unit {0})
-        first = handleContribution net strategy encrypted (contributor (net .«num_nodes») w i) (getD w (valueAt (net .«num_nodes») (contributor (net .«num_nodes») w i)) 0) w t
-
-        go : (r : Run (List ℕ) (Unit {0})) → Listed (net .«num_nodes») (r .state) → (v : Verdict (Unit {0}))
-            → ((w : List ℕ) (t : Tape) → Listed (net .«num_nodes») w → Listed (net .«num_nodes») (handleFrom net strategy encrypted m (i + 1) w t .state))
-            → Listed (net .«num_nodes») (onwardAs v r (λ _ w t. handleFrom net strategy encrypted m (i + 1) w t) .state)
-        go r k (going a) f = f (r .state) (r .tape) k
-        go r k refused f = k
-        go r k (failed c) f = k
-
-    -- as the code leaves it
-    pub kept-contribution : (p value : ℕ) (w : List ℕ) (t : Tape) (o : Out) (d : Left (List ℕ) (Unit {0})) → d ≡ leaves o (handleContribution net strategy encrypted p value w t)
-        → Listed (net .«num_nodes») w → Listed (net .«num_nodes») (d .state)
-    kept-contribution p value w t o d e h = rw e (listed-contribution p value w t h)
-
-    pub kept-from : (m i : ℕ) (w : List ℕ) (t : Tape) (o : Out) (d : Left (List ℕ) (Unit {0})) → d ≡ leaves o (handleFrom net strategy encrypted m i w t)
-        → Listed (net .«num_nodes») w → Listed (net .«num_nodes») (d .state)
-    kept-from m i w t o d e h = rw e (listed-from m i w t h)
+  pub kept-from : (m i : ℕ) (w : List ℕ) (t : Tape) (o : Out) (d : Left (List ℕ) (Unit {0})) → d ≡ leaves o (handleFrom net strategy encrypted m i w t)
+      → Listed (net .«num_nodes») w → Listed (net .«num_nodes») (d .state)
+  kept-from m i w t o d e h = rw e (handle-from-keeps _ _ _ net (rules _) strategy encrypted m i 0 w t h)
 
 -- ONE CONTRIBUTION
 module _ (net : NetworkInfo) (strategy : SubsetHandlingStrategy) (encrypted : Bool) (p value : ℕ) (w : List ℕ) (t : Tape) (o : Out) where

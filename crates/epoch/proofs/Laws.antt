@@ -41,7 +41,6 @@ use Rattle.epochwords.specs.Words.{isComplete, isAccepted, missing, complete, e
 use Rattle.epoch.specs.Epoch.{newEpoch, callEntry, handleDecryptionShare, processSubset, handedUp, callSubset, propose, handleMessageContent}
 use Rattle.epochwords.specs.Batch.{decryptedFrom, isReadyIn, isRead, isReady}
 use Rattle.epoch.proofs.Told.{nothing, shareOf, Told, Ready, EpochLaws}
-use Rattle.epoch.proofs.Shares.{by-share}
 use Rattle.epoch.proofs.Orderly.{Orderly}
 use Rattle.epoch.proofs.Passes.{subsetKinds, decryptionKinds, subset-eight, subset-twelve, subset-thirteen, decryption-value, decryption-decision, decryption-subset, decryption-thirteen, outside-status, outside-accepted, outside-record, Frame, propose-subset-runs, handle-subset-runs, quiet-proposed, quiet-handled}
 use Rattle.epoch.proofs.Texts.{reads-past, after-with}
@@ -226,8 +225,9 @@ module _ (net : NetworkInfo) (strategy : SubsetHandlingStrategy) (encrypted : Bo
 
   share-ok : (sender p share : ℕ) → p < net .«num_nodes» → (u : Tape) → Good (net .«num_nodes») (u .rest)
       → After (handleDecryptionShare net sender p share w u) (λ _ w′ z. Told Holds net strategy encrypted v d t (some p) false (u .rest) w′ (z .rest))
+  unfolding handleDecryptionShare
   share-ok sender p share l u g =
-      by-share net p w u (λ r. After r (λ _ w′ z. Told Holds net strategy encrypted v d t (some p) false (u .rest) w′ (z .rest))) sender share
+      after-cond (isComplete w && not (isAccepted w p)) _ _ _
       (told-still net strategy encrypted w v d t (some p) false (u .rest) h g (voted-still net v d (untold-same (u .rest)))) deals
     where
       deals : After (callEntry net p (handleShare net p sender share) w u) (λ _ w′ z. Told Holds net strategy encrypted v d t (some p) false (u .rest) w′ (z .rest))

@@ -1,4 +1,5 @@
 -- What is proved of the definitions, for this crate's proofs and for those above it.
+pub mod Walk
 pub mod Calling
 pub mod Dropping
 pub mod Handling
@@ -7,7 +8,6 @@ pub mod Reaching
 pub mod Writes
 pub mod Ranges
 pub mod Told
-pub mod Shares
 pub mod Orderly
 pub mod Passes
 pub mod Texts

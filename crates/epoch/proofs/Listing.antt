@@ -1,45 +1,30 @@
 -- A call of the subset leaves a list of contributions of the n proposers, whatever its verdict. Assumes nothing.
-use Prim.Native.Nat.{ℕ, zero, suc, _+_, _<_, _≤_}
+use Prim.Native.Nat.{ℕ, _+_, _<_}
 use native.Mathlib.Omega.{arith}
 use mathlib.Core.Path.{_≡_, refl, _∙_}
-use mathlib.Core.List.{List, []}
-use mathlib.Core.Bool.{Bool, true, false, cond, _||_}
+use mathlib.Core.List.{List}
+use mathlib.Core.Bool.{Bool, true, false, cond}
 use mathlib.Core.Option.{Option, none, some}
-use lib.ListN.{length, getD, set}
+use lib.ListN.{getD, set}
 use lib.Seq.{getD-set-other}
-use lib.Dec.{eqb, ltb}
+use lib.Dec.{ltb}
 use borrow.Author.Tests.{ltb-true}
 use Rattle.steps.specs.declared.network_info.NetworkInfo.{NetworkInfo}
 use Rattle.steps.specs.declared.reader.Content.{Content}
-use Rattle.steps.specs.declared.reader.Content.the-variants.{Broadcast, Agreement}
-use Rattle.steps.specs.Network.{isValidator, numCorrect}
 use Rattle.steps.specs.Answers.{Tape}
 use Rattle.steps.specs.Steps.{Out}
-use Rattle.steps.specs.Runs.{Verdict, going, refused, failed, Run, inside, onwardAs, onward, Left, leaves}
+use Rattle.steps.specs.Runs.{Left, leaves}
 use Rattle.proposal.specs.declared.ProposalState.{ProposalState}
-use Rattle.subset.specs.Words.{isDecided, decidedAt, countAt, countOf, proposalAt, valueAt, arrivalAt, contributor, loadProposal, storeProposal, addContribution}
-use Rattle.proposal.specs.Proposal.{asksAgreement, asksBroadcast}
-use Rattle.subset.specs.Subset.{allComplete, countAccepted, contributed, atProposal, broadcastAt, agreementAt, voteFrom, votes, tryOutput, propose, handleMessage}
+use Rattle.subset.specs.Words.{decidedAt, countAt, countOf, valueAt, arrivalAt, storeProposal, addContribution}
+use Rattle.subset.specs.Subset.{contributed, propose, handleMessage}
+use Rattle.steps.proofs.Logic.{about}
+use Rattle.steps.proofs.States.{holding}
+use Rattle.subset.proofs.Walk.{Rules, propose-keeps, handle-keeps}
 use Rattle.subset.proofs.Frames.{differ, store-word}
 use Rattle.epochwords.specs.Shape.{Listed}
 use Rattle.epoch.proofs.Handling.{set-below}
 
 module _ (n : ℕ) where
-  -- of runs, whether they go on or not
-  listed-cond : {A : Type 0} (b : Bool) (x y : Run (List ℕ) A) → Listed n (x .state) → Listed n (y .state) → Listed n (cond b x y .state)
-  listed-cond true x y h k = h
-  listed-cond false x y h k = k
-
-  listed-onward : {A B : Type 0} (r : Run (List ℕ) A) (k : A → List ℕ → Tape → Run (List ℕ) B) → Listed n (r .state)
-      → ((a : A) (w : List ℕ) (t : Tape) → Listed n w → Listed n (k a w t .state)) → Listed n (onward r k .state)
-  unfolding onward onwardAs
-  listed-onward {A} r k h f = go (r .verdict)
-    where
-      go : (v : Verdict A) → Listed n (onwardAs v r k .state)
-      go (going a) = f a (r .state) (r .tape) h
-      go refused = h
-      go (failed c) = h
-
   -- the words that are written
   listed-proposal : (w : List ℕ) (p : ℕ) (s : ProposalState) → Listed n w → Listed n (storeProposal n w p s)
   listed-proposal w p s h =
@@ -85,51 +70,20 @@ module _ (n : ℕ) where
       go false e = h
 
 -- THE SUBSET
+rules : (n : ℕ) → Rules (about (λ i. i < n)) (holding (λ s. Unit {0}) (λ i. i < n)) (holding (Listed n) (λ i. i < n)) n
+rules n = record {
+  moves = record { reads = λ k e. tt; parts = tt; agreed = λ s out h. tt; came = λ s out h. tt; voted = λ s out h. tt };
+  index = λ p l. l;
+  stored = λ p m w t r i g h. listed-proposal n w p (r .state) h;
+  added = λ p w o l h. listed-contributed n w p o l h;
+  decided = λ w h. listed-decided n w h;
+}
+
+-- as the code leaves it
 module _ (net : NetworkInfo) (error : ℕ) where
-  abbrev N : ℕ
-  N = net .«num_nodes»
+  pub kept-propose : (w : List ℕ) (t : Tape) (o : Out) (d : Left (List ℕ) Bool) → d ≡ leaves o (propose net error w t) → Listed (net .«num_nodes») w → Listed (net .«num_nodes») (d .state)
+  kept-propose w t o d e h = rw e (propose-keeps _ _ _ net (rules _) error tt 0 w t h)
 
-  listed-at : (p : ℕ) (w : List ℕ) (r : Run ProposalState (Option ℕ)) → p < N → Listed N w → Listed N (atProposal net error p w r .state)
-  unfolding atProposal
-  listed-at p w r l h = listed-onward N (inside (storeProposal N w p) r) _ (listed-proposal N w p (r .state) h) (λ value w t k. listed-contributed N w p value l k)
-
-  listed-broadcast : (kind p : ℕ) (w : List ℕ) (t : Tape) → p < N → Listed N w → Listed N (broadcastAt net error kind p w t .state)
-  unfolding broadcastAt
-  listed-broadcast kind p w t l h = listed-cond N (asksBroadcast (loadProposal N w p)) _ _ (listed-at p w _ l h) h
-
-  listed-agreement : (kind p : ℕ) (w : List ℕ) (t : Tape) → p < N → Listed N w → Listed N (agreementAt net error kind p w t .state)
-  unfolding agreementAt
-  listed-agreement kind p w t l h = listed-cond N (asksAgreement (loadProposal N w p)) _ _ (listed-at p w _ l h) h
-
-  listed-votes : (m i : ℕ) (w : List ℕ) (t : Tape) → i + m ≤ N → Listed N w → Listed N (voteFrom net error m i w t .state)
-  unfolding voteFrom
-  listed-votes zero i w t l h = h
-  listed-votes (suc m) i w t l h = listed-onward N (agreementAt net error 7 i w t) _ (listed-agreement 7 i w t (omega arith) h) (λ _ w t k. listed-votes m (i + 1) w t (omega arith) k)
-
-  listed-try : (w : List ℕ) (t : Tape) → Listed N w → Listed N (tryOutput net error w t .state)
-  unfolding tryOutput votes
-  listed-try w t h =
-      listed-cond N (isDecided w || ltb (countAccepted N w) (numCorrect net)) _ _ h
-      (listed-onward N (votes net error w t) _ (listed-cond N (eqb (countAccepted N w) (numCorrect net)) _ _ (listed-votes N 0 w t (omega arith) h) h)
-      (λ _ w t k. listed-cond N (allComplete N w) _ _ (listed-decided N w k) k))
-
-  listed-propose : (w : List ℕ) (t : Tape) → Listed N w → Listed N (propose net error w t .state)
-  unfolding propose
-  listed-propose w t h = go (isValidator net) refl
-    where
-      go : (b : Bool) → isValidator net ≡ b → Listed N (cond b (onward (broadcastAt net error 3 (net .«our_id») w t) (λ _ w t. tryOutput net error w t)) (record { state = w; verdict = going false; tape = t; log = [] }) .state)
-      go true e = listed-onward N (broadcastAt net error 3 (net .«our_id») w t) _ (listed-broadcast 3 (net .«our_id») w t (ltb-true (net .«our_id») N e) h) (λ _ w t k. listed-try w t k)
-      go false e = h
-
-  listed-handle : (content : Content) (p : ℕ) (w : List ℕ) (t : Tape) → p < N → Listed N w → Listed N (handleMessage net error content p w t .state)
-  unfolding handleMessage
-  listed-handle Broadcast p w t l h = listed-onward N (broadcastAt net error 4 p w t) _ (listed-broadcast 4 p w t l h) (λ _ w t k. listed-try w t k)
-  listed-handle Agreement p w t l h = listed-onward N (agreementAt net error 5 p w t) _ (listed-agreement 5 p w t l h) (λ _ w t k. listed-try w t k)
-
-  -- as the code leaves it
-  pub kept-propose : (w : List ℕ) (t : Tape) (o : Out) (d : Left (List ℕ) Bool) → d ≡ leaves o (propose net error w t) → Listed N w → Listed N (d .state)
-  kept-propose w t o d e h = rw e (listed-propose w t h)
-
-  pub kept-handle : (content : Content) (p : ℕ) (w : List ℕ) (t : Tape) (o : Out) (d : Left (List ℕ) Bool) → p < N → d ≡ leaves o (handleMessage net error content p w t)
-      → Listed N w → Listed N (d .state)
-  kept-handle content p w t o d l e h = rw e (listed-handle content p w t l h)
+  pub kept-handle : (content : Content) (p : ℕ) (w : List ℕ) (t : Tape) (o : Out) (d : Left (List ℕ) Bool) → p < net .«num_nodes» → d ≡ leaves o (handleMessage net error content p w t)
+      → Listed (net .«num_nodes») w → Listed (net .«num_nodes») (d .state)
+  kept-handle content p w t o d l e h = rw e (handle-keeps _ _ _ net (rules _) error tt content p l 0 w t h)

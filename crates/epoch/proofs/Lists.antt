@@ -1,10 +1,9 @@
 -- UNDER INCREMENTAL NO CONTRIBUTION IS KEPT BETWEEN CALLS: where none was kept before a call of an epoch, none is afterwards, whatever the
 -- verdict. Assumes nothing.
-use Prim.Native.Nat.{ℕ, zero, suc, _+_, _-_, _≤_}
+use Prim.Native.Nat.{ℕ, _-_, _≤_}
 use mathlib.Core.Path.{_≡_, refl, ap, _∙_}
 use mathlib.Core.List.{List}
 use mathlib.Core.Bool.{Bool, true, false, cond}
-use mathlib.Core.Option.{Option}
 use native.Mathlib.Omega.{arith}
 use lib.ListN.{replicate, length, getD, set, List·getD-eq-default}
 use lib.Seq.{getD-set-same, getD-set-other, set-out}
@@ -16,18 +15,18 @@ use Rattle.steps.specs.declared.reader.Answer.the-variants.{Got, Refused}
 use Rattle.steps.specs.Answers.{Tape, Asked, ask}
 use Rattle.steps.specs.Runs.{Verdict, going, refused, failed, Run, onwardAs, onward, heardAs, heard, inside}
 use Rattle.steps.proofs.Ranges.{zeros-at}
-use Rattle.decryption.specs.declared.ThresholdDecrypt.{ThresholdDecrypt}
-use Rattle.subset.specs.Words.{epochLength, statusOngoing, newEpoch, statusAt, decidedAt, countAt, countOf, dropFrom}
+use Rattle.subset.specs.Words.{proposalAt, valueAt, epochLength, statusOngoing, newEpoch, statusAt, decidedAt, countAt, countOf, dropFrom}
 use Rattle.subset.proofs.Ranges.{limitAt, EpochOk}
 use Rattle.epochwords.specs.declared.SubsetHandlingStrategy.{SubsetHandlingStrategy}
 use Rattle.epochwords.specs.declared.SubsetHandlingStrategy.the-variants.{Incremental, AllAtEnd}
 use Rattle.epoch.specs.declared.MessageContent.{MessageContent}
 use Rattle.epoch.specs.declared.MessageContent.the-variants.{Subset, DecryptionShare}
-use Rattle.epochwords.specs.Words.{isComplete, storeDecryption, mostKept}
-use Rattle.epoch.specs.Epoch.{firstContributions, entryAfter, handlesNow, subsetComplete, processDecryption, finishAt, finishFrom, handleContributions, processSubset, handedUp, callSubset, propose, handleMessageContent}
+use Rattle.epochwords.specs.Words.{isComplete, DecryptionState, storeDecryption, mostKept}
+use Rattle.epoch.specs.Epoch.{firstContributions, handlesNow, subsetComplete, proposalDropped, finishFrom, handleContributions, processSubset, handedUp, callSubset, propose, handleMessageContent}
 use Rattle.epochwords.proofs.Entries.{store-low}
-use Rattle.epoch.proofs.Shares.{by-entry, by-share}
-use Rattle.epoch.proofs.Orders.{finish-words}
+use Rattle.steps.proofs.States.{still}
+use Rattle.decryption.proofs.Walk.{any-combines}
+use Rattle.epoch.proofs.Walk.{entries-hold, finishes-hold, share-message-keeps, finish-keeps}
 
 -- nothing is kept
 abbrev pub NoneKept : List ℕ → Type 0
@@ -75,22 +74,21 @@ done-none : (w : List ℕ) → NoneKept w → NoneKept (subsetComplete w)
 unfolding subsetComplete
 done-none w h = getD-set-other (set w statusAt 2) decidedAt countAt 0 0 (λ e. omega arith) ∙ getD-set-other w statusAt countAt 2 0 (λ e. omega arith) ∙ h
 
+-- an entry's words are others, and so are a proposal's
+none-stored : (n p : ℕ) (d : DecryptionState) (w : List ℕ) → NoneKept w → NoneKept (storeDecryption n w p d)
+none-stored n p d w h = store-low n p w d countAt (omega arith) ∙ h
+
+none-dropped : (n p : ℕ) (w : List ℕ) → NoneKept w → NoneKept (proposalDropped n w p)
+unfolding proposalDropped
+none-dropped n p w h =
+    getD-set-other (set w (proposalAt n p) 0) (valueAt n p) countAt 0 0 (λ e. omega arith) ∙ getD-set-other w (proposalAt n p) countAt 0 0 (λ e. omega arith) ∙ h
+
 module _ (net : NetworkInfo) where
   abbrev n : ℕ
   n = net .«num_nodes»
 
-  finish-none : (m p : ℕ) (w : List ℕ) (u : Tape) → NoneKept w → NoneKept (finishFrom net m p w u .state)
-  unfolding finishFrom
-  finish-none zero p w u h = h
-  finish-none (suc m) p w u h =
-      let k : NoneKept (finishAt net p w u .state) = finish-words net p w u countAt (λ j l e. omega arith) ∙ h in
-      none-onward (finishAt net p w u) _ (λ _ _. finish-none m (p + 1) _ _ k) (λ _. k)
-
-  process-none : (p : ℕ) (w : List ℕ) (r : Run ThresholdDecrypt (Option ℕ)) → NoneKept w → NoneKept (processDecryption net p w r .state)
-  unfolding processDecryption
-  process-none p w r h =
-      let k : NoneKept (storeDecryption n w p (entryAfter (r .verdict) (r .state))) = store-low n p w (entryAfter (r .verdict) (r .state)) countAt (omega arith) ∙ h in
-      none-onward _ _ (λ _ _. k) (λ _. k)
+  finish-none : (w : List ℕ) (u : Tape) → NoneKept w → NoneKept (finishFrom net n 0 w u .state)
+  finish-none w u h = finish-keeps _ still _ net (finishes-hold n NoneKept (none-stored n) (none-dropped n)) n 0 w u h
 
   module _ (encrypted : Bool) where
     -- the contributions that have come are handled, and the list is empty, even after a failure
@@ -99,7 +97,7 @@ module _ (net : NetworkInfo) where
     subset-none done w u =
         let k = none-first n _ in
         none-onward (handleContributions net Incremental encrypted w u) _
-        (λ _ _. none-cond done _ _ (finish-none n 0 _ _ (done-none (handleContributions net Incremental encrypted w u .state) k)) k)
+        (λ _ _. none-cond done _ _ (finish-none _ _ (done-none (handleContributions net Incremental encrypted w u .state) k)) k)
         (λ _. k)
 
     call-none : (call : List ℕ → Tape → Run (List ℕ) Bool) (w : List ℕ) (u : Tape) → NoneKept w → NoneKept (callSubset net Incremental encrypted call w u .state)
@@ -123,7 +121,7 @@ module _ (net : NetworkInfo) where
     unfolding handleMessageContent
     content-none sender p (Subset content) w u h = call-none _ w u h
     content-none sender p (DecryptionShare share) w u h =
-        by-share net p w u (λ r. NoneKept (r .state)) sender share h (by-entry net p w u (λ r. NoneKept (r .state)) _ (process-none p w _ h) h)
+        share-message-keeps _ _ _ net (entries-hold n NoneKept (none-stored n)) (any-combines still (λ s t h. tt)) (λ a. tt) sender p share tt 0 w u h
 
 -- SO THE RANGE RULE'S WORD 3 IS KEPT: a call that ends with its words in range keeps no more contributions than the strategy allows
 module _ (net : NetworkInfo) (encrypted : Bool) (w : List ℕ) (u : Tape) where

@@ -1,5 +1,5 @@
 -- Runs that have read answers of certain kinds only, whose log has no outputs and no faults 5, and whose state has a property. Assumes nothing.
-use Prim.Native.Nat.{ℕ, _+_}
+use Prim.Native.Nat.{ℕ}
 use mathlib.Core.Path.{_≡_, refl, sym, ap}
 use mathlib.Core.List.{List, [], _∷_, _++_, append-assoc}
 use mathlib.Core.Bool.{Bool, true, false, cond}
@@ -15,7 +15,8 @@ use Rattle.steps.specs.Steps.{Entry, message, fault, output, Item, item, faults
 use Rattle.steps.specs.Runs.{Verdict, going, refused, failed, Run, ends, before, onwardAs, onward, heardAs, heard, inside}
 use Rattle.steps.specs.Parts.{isPart, messageKind, faultKind, partEntries, lastOutput, partsFrom, readParts}
 use Rattle.steps.proofs.Parts.{parts-on, parts-off}
-use Rattle.steps.proofs.Past.{OfKinds, Past, past-same, past-then, past-ask, past-about, past-parts}
+use Rattle.steps.proofs.Past.{Past, past-same, past-then, past-ask, past-about, past-parts}
+use Rattle.steps.proofs.Logic.{Terms, Logic}
 use Rattle.epoch.proofs.Told.{fivesAmong, Quiet}
 
 -- LOGS
@@ -91,24 +92,12 @@ Any s = Unit {0}
 abbrev pub anyKind : ℕ → Bool
 anyKind k = true
 
-kinds-any : (is : ℕ → Bool) (l : List Rec) → OfKinds is l → OfKinds anyKind l
-unfolding OfKinds
-kinds-any is [] k = tt
-kinds-any is (r ∷ rs) k = (refl, kinds-any is rs (k .1))
-
-pub orderly-any : {S A : Type 0} {P : S → Type 0} {is : ℕ → Bool} {p : Tape} {r : Run S A} → Orderly P is p r → Orderly Any anyKind p r
-orderly-any {is = is} k = record { state = tt; past = record { read = k .past .read; rests = k .past .rests; kinds = kinds-any is (k .past .read) (k .past .kinds) }; quiet = k .quiet }
-
 module _ {S A : Type 0} {P : S → Type 0} {is : ℕ → Bool} where
   pub orderly-ends : {v : Verdict A} {s : S} {p : Tape} → P s → Orderly P is p (ends v s p)
   orderly-ends {p = p} h = record { state = h; past = past-same is (p .rest); quiet = quiet-none }
 
   pub orderly-before : {l : List Entry} {p : Tape} {r : Run S A} → Quiet l → Orderly P is p r → Orderly P is p (before l r)
   orderly-before q k = record { state = k .state; past = k .past; quiet = quiet-append _ _ q (k .quiet) }
-
-  pub orderly-cond : {p : Tape} (x : Bool) (r s : Run S A) → Orderly P is p r → Orderly P is p s → Orderly P is p (cond x r s)
-  orderly-cond true r s f g = f
-  orderly-cond false r s f g = g
 
   -- answers read before a run
   orderly-after : {p q : Tape} {r : Run S A} → Past is (p .rest) (q .rest) → Orderly P is q r → Orderly P is p r
@@ -153,4 +142,32 @@ orderly-parts is f content proposer s p h = record {
   state = h;
   past = past-parts is f content proposer Missing (p .place) (p .rest);
   quiet = quiet-parts content proposer Missing (p .place) (p .rest);
+}
+
+-- as a logic of runs
+abbrev pub orders : (ℕ → Bool) → Terms
+orders is = record {
+  Kind = λ k. is k ≡ true;
+  Text = is 12 ≡ true;
+  Parts = (k : ℕ) → isPart k ≡ true → is k ≡ true;
+  Writes = λ e. Quiet (e ∷ []);
+  Number = λ n. Unit {0};
+  Handle = λ b. Unit {0};
+  Index = λ i. Unit {0};
+}
+
+abbrev pub ordering : {S : Type 0} (is : ℕ → Bool) → (S → Type 0) → Logic (orders is) S
+ordering is P = record {
+  Good = λ A f h s p r. P s → Orderly P is p r;
+  Step = λ x s y t. P s → P t;
+  steps = λ A f x y n s t p r e g h. g (e h);
+  goes = λ A f h a s p e l i. orderly-ends i;
+  fails = λ A f h n s p e i. orderly-ends i;
+  writes = λ A f x n e s p r w g h. orderly-before w (g h);
+  asks = λ A f x n kind s p k e g h. orderly-ask p kind s k e h (λ a b u. g a b u tt h);
+  asksAbout = λ A f x n kind who s p k e g h. orderly-about p kind who s k e h (λ a b u. g a b u h);
+  asksText = λ A f n s p k e g h. orderly-ask p 12 s k e h (λ a b u. g a b u tt h);
+  parts = λ content proposer n s p e h. orderly-parts is e content proposer s p h;
+  spares = λ A n left all s p r e g. g;
+  goesOn = λ A B f g h s p r k l m i. orderly-onward r k (l i) (λ a t q. m a t q);
 }

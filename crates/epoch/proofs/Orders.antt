@@ -1,24 +1,21 @@
 -- COUNTS AND ORDERS OF AN EPOCH: received proposals, the faults 2 of Done, the order of contributions, and what a ciphertext that does not
 -- read or verify leaves. Assumes nothing.
 use Prim.Native.Nat.{ℕ, zero, suc, _+_, _-_, _^_, _≤_, _<_}
-use mathlib.Core.Path.{_≡_, refl, sym, ap, ap₂, _∙_, subst}
+use mathlib.Core.Path.{_≡_, refl, sym, ap, ap₂, _∙_}
 use mathlib.Core.List.{List, [], _∷_, _++_, append-nil}
 use mathlib.Core.Bool.{Bool, true, false, cond, _&&_}
 use mathlib.Core.Logic.{_⊎_, inl, inr}
-use mathlib.Core.Option.{Option}
 use native.Mathlib.Omega.{arith}
 use native.Mathlib.Nat.{eq-or-lt-of-le}
 use lib.ListN.{length, getD, set, replicate}
 use lib.Seq.{getD-set-other}
 use lib.Dec.{eqb}
 use borrow.Author.Tests.{eqb-true, eq-eqb, ne-eqb}
-use lib.Pow.{pow-pos}
 use lib.Count.{ones}
 use Rattle.steps.specs.declared.network_info.NetworkInfo.{NetworkInfo}
 use Rattle.steps.specs.Answers.{Rec, Tape, tape, askFor, askAbout}
 use Rattle.steps.specs.Steps.{Entry, fault}
-use Rattle.steps.specs.Runs.{Verdict, going, refused, failed, Run, ends, before, onwardAs, onward, heardAs, heard, inside}
-use Rattle.steps.proofs.BitLaws.{with-below}
+use Rattle.steps.specs.Runs.{going, Run, ends, before, onwardAs, onward, heardAs, heard, inside}
 use Rattle.steps.specs.Bits.{countBits}
 use Rattle.steps.proofs.Runs.{onward-at}
 use Rattle.decryption.specs.declared.ThresholdDecrypt.{ThresholdDecrypt}
@@ -26,18 +23,19 @@ use Rattle.decryption.specs.Decrypt.{setCiphertext}
 use Rattle.subset.specs.Words.{recordLength, epochLength, statusAt, decidedAt, acceptedAt, countAt, recordAt, proposalAt, valueAt, arrivalAt, addContribution}
 use Rattle.subset.specs.Bits.{receivedTags, proposalsIn}
 use Rattle.subset.specs.Subset.{receivedProposals as receivedBySubset}
-use Rattle.steps.proofs.After.{AfterAs, After, after-map, after-cond, after-onward, after-about}
 use Rattle.subset.proofs.Frames.{apart, differ, add-word, add-value, add-arrival}
 use Rattle.subset.proofs.Bits.{ones-bits, received-ones}
 use Rattle.epochwords.specs.declared.SubsetHandlingStrategy.{SubsetHandlingStrategy}
 use Rattle.epochwords.specs.declared.SubsetHandlingStrategy.the-variants.{AllAtEnd}
 use Rattle.epochwords.specs.Words.{isVacant, isComplete, isAccepted, accept, missing, ongoing, complete, entryOngoing, decryptionAt, plaintextAt, shareAt, asks, isSettled, decryptionIn, sharesFrom, loadInstance, loadEntry, loadDecryption, storeEntry, storeDecryption}
 use Rattle.epoch.specs.Epoch.{receivedProposals, unexpectedFrom, unexpectedShares, subsetComplete, proposalDropped, entryAfter, processDecryption, callEntry, inputCiphertext, sendDecryptionShare, handleContribution, handleFrom, handleContributions, processSubset, firstContributions, handlesNow, finishAt, finishFrom}
-use Rattle.epochwords.specs.Batch.{decryptedFrom, isReadyIn, isReady, isRead, readAt, readFrom}
+use Rattle.epochwords.specs.Batch.{decryptedFrom, isReadyIn, isReady}
 use Rattle.subset.specs.Rule.{Contribution, contributionsFrom}
 use Rattle.epoch.specs.Orders.{receivedBits, isUnexpected, bySender, byProposer, handleEach}
 use Rattle.epochwords.proofs.Entries.{accept-word, accept-same, entry-tag, store-size, places, store-word, store-subset}
-use Rattle.epoch.proofs.Shares.{by-entry}
+use Rattle.steps.proofs.Logic.{anything}
+use Rattle.steps.proofs.States.{holding, still}
+use Rattle.epoch.proofs.Walk.{Handles, handles-hold, contribution-keeps}
 
 -- RECEIVED PROPOSALS are the ones of a word: of an ongoing epoch the proposals in HasValue or Complete with 1, after Done the accepted ones
 pub received-word : (n : ℕ) (w : List ℕ) → getD w acceptedAt 0 < 2 ^ n → receivedProposals n w ≡ ones (receivedBits n w)
@@ -192,40 +190,17 @@ module _ (n : ℕ) where
     pub arrives-last : contributionsFrom n (c + 1) 0 (addContribution n w p value) ≡ contributionsFrom n c 0 w ++ (record { proposer = p; value = value } ∷ [])
     arrives-last = let e : c + 1 ≡ suc c = omega arith in rw e (joined c 0 (omega arith))
 
-module _ (net : NetworkInfo) (p : ℕ) (w : List ℕ) where
-  abbrev Keeps : Unit {0} → List ℕ → Tape → Type 0
-  Keeps a w′ z = Listed (net .«num_nodes») w w′
-
-  process-listed : (r : Run ThresholdDecrypt (Option ℕ)) → After (processDecryption net p w r) Keeps
-  unfolding processDecryption onward onwardAs
-  process-listed r = go (r .verdict)
-    where
-      stored : Listed (net .«num_nodes») w (storeDecryption (net .«num_nodes») w p (entryAfter (r .verdict) (r .state)))
-      stored = store-subset (net .«num_nodes») p w (entryAfter (r .verdict) (r .state))
-
-      go : (v : Verdict (Option ℕ))
-          → After (onwardAs v (record { state = storeDecryption (net .«num_nodes») w p (entryAfter (r .verdict) (r .state)); verdict = r .verdict; tape = r .tape; log = r .log }) (λ _ w q. ends {A = Unit {0}} (going tt) w q)) Keeps
-      go (going o) = stored
-      go refused = tt
-      go (failed n) = tt
-
-  send-listed : (value : ℕ) (u : Tape) → After (sendDecryptionShare net p value w u) Keeps
-  unfolding sendDecryptionShare
-  send-listed value u =
-      after-about u 8 w _ Keeps p (λ a b z r.
-      after-cond (eqb a 0) _ _ Keeps (λ q k l f. refl) (by-entry net p w z (λ s. After s Keeps) _ (process-listed _) (λ q k l f. refl)))
-
-  handle-listed : (strategy : SubsetHandlingStrategy) (encrypted : Bool) (value : ℕ) (u : Tape) → After (handleContribution net strategy encrypted p value w u) Keeps
-  unfolding handleContribution
-  handle-listed strategy encrypted value u =
-      after-onward _ _ Keeps
-      (after-map (cond encrypted (sendDecryptionShare net p value w u) (ends (going tt) (storeDecryption (net .«num_nodes») w p (complete value)) u)) Keeps _
-      (after-cond encrypted _ _ Keeps (send-listed value u) (store-subset (net .«num_nodes») p w (complete value)))
-      (λ _ w₁ z h q k l f. accept-word w₁ p (recordAt (net .«num_nodes») q k) (λ e. omega arith) ∙ h q k l f))
-
 module _ (net : NetworkInfo) (strategy : SubsetHandlingStrategy) (encrypted : Bool) where
-  after-at : {S A : Type 0} (r : Run S A) (Q : A → S → Tape → Type 0) (a : A) → r .verdict ≡ going a → After r Q → Q a (r .state) (r .tape)
-  after-at {S = S} {A = A} r Q a e h = subst (λ (v : Verdict A). AfterAs v (r .state) (r .tape) Q) e h
+  handle-listed : (p value : ℕ) (w : List ℕ) (u : Tape) → Listed (net .«num_nodes») w (handleContribution net strategy encrypted p value w u .state)
+  handle-listed p value w u = contribution-keeps _ _ _ net rules strategy encrypted p value tt tt 0 w u (λ q k l f. refl)
+    where
+      n : ℕ
+      n = net .«num_nodes»
+
+      rules : Handles anything still (holding (Listed n w) (λ i. Unit {0})) n
+      rules =
+          handles-hold n (Listed n w) (λ p d v h q k l f. store-subset n p v d q k l f ∙ h q k l f)
+          (λ p v h q k l f. accept-word v p (recordAt n q k) (λ e. omega arith) ∙ h q k l f)
 
   in-order : (m i : ℕ) (w : List ℕ) (u : Tape) → handleFrom net strategy encrypted m i w u ≡ handleEach net strategy encrypted (contributionsFrom (net .«num_nodes») m i w) w u
   unfolding handleFrom handleEach contributionsFrom
@@ -237,7 +212,7 @@ module _ (net : NetworkInfo) (strategy : SubsetHandlingStrategy) (encrypted : Bo
       onward-at r _ _ (λ a e.
       in-order m (i + 1) (r .state) (r .tape)
       ∙ ap (λ (l : List Contribution). handleEach net strategy encrypted l (r .state) (r .tape))
-      (same-contributionsFrom (net .«num_nodes») w (r .state) (after-at r (Keeps net p w) a e (handle-listed net p w strategy encrypted value u)) m (i + 1)))
+      (same-contributionsFrom (net .«num_nodes») w (r .state) (handle-listed p value w u) m (i + 1)))
 
   -- contributions are handled in the order of their arrival, as they were when the first one was
   pub contributions-in-order : (w : List ℕ) (u : Tape)

@@ -1,8 +1,8 @@
 -- Every run of the subset, of threshold decryption and of an epoch is quiet; the first two read their own kinds of answers only, and the subset leaves the words that are not its own. Assumes nothing.
-use Prim.Native.Nat.{ℕ, zero, suc, _+_, _<_, _≤_}
+use Prim.Native.Nat.{ℕ, _+_, _<_, _≤_}
 use mathlib.Core.Path.{_≡_, refl, _∙_}
-use mathlib.Core.List.{List, [], _∷_}
-use mathlib.Core.Bool.{Bool, true, false, cond, _&&_, _||_, not}
+use mathlib.Core.List.{List}
+use mathlib.Core.Bool.{Bool, true, false, cond, _&&_, _||_}
 use mathlib.Core.Option.{Option, none, some}
 use native.Mathlib.Omega.{arith}
 use lib.ListN.{getD, set}
@@ -10,36 +10,29 @@ use lib.Seq.{getD-set-other}
 use lib.Dec.{leb, ltb, eqb}
 use borrow.Author.Tests.{leb-true, le-leb, ne-eqb, lt-leb}
 use Rattle.steps.specs.declared.reader.Content.{Content}
-use Rattle.steps.specs.declared.reader.Content.the-variants.{Broadcast, Agreement}
 use Rattle.steps.specs.declared.network_info.NetworkInfo.{NetworkInfo}
-use Rattle.steps.specs.declared.reader.Output.{Output}
-use Rattle.steps.specs.declared.reader.Output.the-variants.{Missing, Value}
-use Rattle.steps.specs.Network.{isValidator, numCorrect}
 use Rattle.steps.specs.Answers.{Rec, Tape}
 use Rattle.steps.specs.Table.{within}
-use Rattle.steps.specs.Steps.{fault}
-use Rattle.steps.specs.Runs.{Verdict, going, refused, failed, Run}
+use Rattle.steps.specs.Runs.{Run}
 use Rattle.steps.specs.Parts.{isPart}
 use Rattle.steps.specs.Taken.{ofValue, ofDecision}
 use Rattle.steps.proofs.Laws.{and-true}
 use Rattle.steps.proofs.Past.{Past, Others}
 use Rattle.steps.proofs.Times.{past-more}
 use Rattle.decryption.specs.declared.ThresholdDecrypt.{ThresholdDecrypt}
-use Rattle.decryption.specs.Decrypt.{isSender, withInput, withEnd, countShares, isSome, setCiphertext, isShareValid, checkShare, removeFrom, ownShare, startWith, combine, tryWith, startDecryption, tryOutput as tryCombine, storeShare, handleMessage as handleShare}
-use Rattle.decryption.proofs.Cycle.{Does}
+use Rattle.decryption.specs.Decrypt.{handleMessage as handleShare}
 use Rattle.proposal.specs.declared.ProposalState.{ProposalState}
-use Rattle.subset.specs.Words.{decidedAt, isDecided, acceptedAt, statusAt, countAt, recordAt, proposalAt, valueAt, arrivalAt, loadProposal, storeProposal, addContribution}
-use Rattle.proposal.specs.Proposal.{asksAgreement, asksBroadcast, afterBroadcast, instanceAnswer, answerAgreement, voteTrue, afterValue, answerBroadcast}
-use Rattle.subset.specs.Subset.{allComplete, countAccepted, contributed, atProposal, broadcastAt, agreementAt, voteFrom, votes, tryOutput, propose as proposeSubset, handleMessage as handleSubset}
+use Rattle.subset.specs.Words.{countOf, decidedAt, acceptedAt, statusAt, countAt, recordAt, proposalAt, valueAt, arrivalAt, storeProposal, addContribution}
+use Rattle.subset.specs.Subset.{contributed, propose as proposeSubset, handleMessage as handleSubset}
 use Rattle.subset.proofs.Frames.{differ, store-word}
 use Rattle.epochwords.specs.declared.SubsetHandlingStrategy.{SubsetHandlingStrategy}
 use Rattle.epoch.specs.declared.MessageContent.{MessageContent}
-use Rattle.epoch.specs.declared.MessageContent.the-variants.{Subset, DecryptionShare}
-use Rattle.epochwords.specs.Words.{isComplete, isAccepted, DecryptionState, missing, ongoing, complete}
-use Rattle.epoch.specs.Epoch.{firstContributions, unexpectedFrom, unexpectedShares, handlesNow, processDecryption, callEntry, inputCiphertext, sendDecryptionShare, handleDecryptionShare, finishAt, finishFrom, handleContribution, handleFrom, handleContributions, processSubset, handedUp, callSubset, propose, handleMessageContent}
+use Rattle.epoch.specs.Epoch.{firstContributions, inputCiphertext, propose, handleMessageContent}
 use Rattle.epoch.proofs.Told.{Quiet}
-use Rattle.epoch.proofs.Shares.{by-entry, by-share}
-use Rattle.epoch.proofs.Orderly.{quiet-none, quiet-append, quiet-message, quiet-fault, Orderly, Any, anyKind, orderly-any, orderly-ends, orderly-before, orderly-cond, orderly-ask, orderly-about, orderly-onward, orderly-inside, orderly-parts}
+use Rattle.epoch.proofs.Walk.{Inputs, Rules, input-keeps, propose-keeps, content-keeps}
+use Rattle.decryption.proofs.Walk.{handle-keeps as share-keeps}
+use Rattle.subset.proofs.Walk.{Rules as Subsets, propose-keeps as propose-subset-keeps, handle-keeps as handle-subset-keeps}
+use Rattle.epoch.proofs.Orderly.{quiet-message, quiet-fault, Orderly, Any, anyKind, orderly-inside, orders, ordering}
 
 -- THE KINDS that the subset reads, and those that decrypting a contribution reads
 abbrev pub subsetKinds : ℕ → Bool
@@ -100,6 +93,11 @@ decryption-thirteen k e = ne-eqb k 13 (λ z. omega (arith, leb-true k 12 (and-tr
 
 pub entry-eight : Others entryKinds (λ k. eqb k 8)
 entry-eight k e = ne-eqb k 8 (λ z. omega (arith, leb-true 9 k (and-true (leb 9 k) (leb k 12) e .0)))
+
+within-wider : (lo mid hi k : ℕ) → mid ≤ hi → within lo mid k ≡ true → within lo hi k ≡ true
+within-wider lo mid hi k l e =
+    let two = and-true (leb lo k) (leb k mid) e in
+    rw (two .0, le-leb k hi (omega (arith, leb-true k mid (two .1))))
 
 pub entry-past : {ws r : List Rec} → Past entryKinds ws r → Past decryptionKinds ws r
 entry-past p =
@@ -162,260 +160,88 @@ module _ (n : ℕ) (w₀ w : List ℕ) (f : Frame n w₀ w) where
   frame-decided : (x : ℕ) → Frame n w₀ (set w decidedAt x)
   frame-decided x i o = getD-set-other w decidedAt i x 0 (o .decided) ∙ f i o
 
--- THE SUBSET. First a proposal
+-- THE SUBSET
 parts-kinds : (k : ℕ) → isPart k ≡ true → subsetKinds k ≡ true
 parts-kinds k e = or-part (within 3 7 k) (isPart k) e
 
-module _ (error proposer : ℕ) where
-  answer-runs : (kind : ℕ) (content : Content) → subsetKinds kind ≡ true → (s : ProposalState) (p : Tape) → Orderly Any subsetKinds p (instanceAnswer error proposer kind content s p)
-  unfolding instanceAnswer
-  answer-runs kind content e s p =
-      orderly-about p kind proposer s _ e tt (λ a b q. orderly-cond (eqb a 0) _ _ (orderly-ends tt) (orderly-parts subsetKinds parts-kinds content proposer s q tt))
-
-  agreement-runs : (kind : ℕ) → subsetKinds kind ≡ true → (s : ProposalState) (p : Tape) → Orderly Any subsetKinds p (answerAgreement error proposer kind s p)
-  unfolding answerAgreement
-  agreement-runs kind e s p =
-      orderly-onward _ _ (answer-runs kind _ e s p) (λ out s q _. orderly-ends tt)
-
-  value-runs : (s : ProposalState) (out : Output) (p : Tape) → Orderly Any subsetKinds p (afterValue error proposer s out p)
-  unfolding afterValue voteTrue
-  value-runs s Missing p = orderly-ends tt
-  value-runs s (Value v) p =
-      orderly-cond (asksAgreement (afterBroadcast s (Value v) .state)) _ _ (agreement-runs 6 refl _ p) (orderly-ends tt)
-
-  broadcast-runs : (kind : ℕ) → subsetKinds kind ≡ true → (s : ProposalState) (p : Tape) → Orderly Any subsetKinds p (answerBroadcast error proposer kind s p)
-  unfolding answerBroadcast
-  broadcast-runs kind e s p =
-      orderly-onward _ _ (answer-runs kind _ e s p) (λ out s q _. value-runs s out q)
+module _ (n : ℕ) (w₀ : List ℕ) where
+  subset-rules : Subsets (orders subsetKinds) (ordering subsetKinds Any) (ordering subsetKinds (Frame n w₀)) n
+  subset-rules = record {
+    moves = record { reads = λ k e. rw e; parts = parts-kinds; agreed = λ s out h. tt; came = λ s out h. tt; voted = λ s out h. tt };
+    index = λ p l. tt;
+    stored = λ p m w t r i g h. orderly-inside (storeProposal n w p) r (λ s _. frame-store n w₀ w h p s) (g tt);
+    added = λ p w o i h. frame-contributed n w₀ w h p o;
+    decided = λ w h. frame-decided n w₀ w h 1;
+  }
 
 module _ (net : NetworkInfo) (error : ℕ) (w₀ : List ℕ) where
-  abbrev F : List ℕ → Type 0
-  F = Frame (net .«num_nodes») w₀
-
   abbrev Runs : {A : Type 0} → (List ℕ → Tape → Run (List ℕ) A) → Type 0
-  Runs k = (w : List ℕ) (p : Tape) → F w → Orderly F subsetKinds p (k w p)
-
-  at-runs : (p : ℕ) (w : List ℕ) (u : Tape) (r : Run ProposalState (Option ℕ)) → F w → Orderly Any subsetKinds u r → Orderly F subsetKinds u (atProposal net error p w r)
-  unfolding atProposal
-  at-runs p w u r h k =
-      orderly-onward _ _ (orderly-inside (storeProposal (net .«num_nodes») w p) r (λ s _. frame-store (net .«num_nodes») w₀ w h p s) k)
-      (λ value w q h. orderly-ends (frame-contributed (net .«num_nodes») w₀ w h p value))
-
-  broadcast-at-runs : (kind p : ℕ) → subsetKinds kind ≡ true → Runs (broadcastAt net error kind p)
-  unfolding broadcastAt
-  broadcast-at-runs kind p e w u h =
-      orderly-cond (asksBroadcast (loadProposal (net .«num_nodes») w p)) _ _ (at-runs p w u _ h (broadcast-runs error p kind e _ u)) (orderly-ends h)
-
-  agreement-at-runs : (kind p : ℕ) → subsetKinds kind ≡ true → Runs (agreementAt net error kind p)
-  unfolding agreementAt
-  agreement-at-runs kind p e w u h =
-      orderly-cond (asksAgreement (loadProposal (net .«num_nodes») w p)) _ _ (at-runs p w u _ h (agreement-runs error p kind e _ u)) (orderly-ends h)
-
-  vote-from-runs : (m i : ℕ) → Runs (voteFrom net error m i)
-  unfolding voteFrom
-  vote-from-runs zero i w u h = orderly-ends h
-  vote-from-runs (suc m) i w u h = orderly-onward _ _ (agreement-at-runs 7 i refl w u h) (λ _ w q h. vote-from-runs m (i + 1) w q h)
-
-  votes-runs : Runs (votes net error)
-  unfolding votes
-  votes-runs w u h =
-      orderly-cond (eqb (countAccepted (net .«num_nodes») w) (numCorrect net)) _ _ (vote-from-runs (net .«num_nodes») 0 w u h) (orderly-ends h)
-
-  try-runs : Runs (tryOutput net error)
-  unfolding tryOutput
-  try-runs w u h =
-      orderly-cond (isDecided w || ltb (countAccepted (net .«num_nodes») w) (numCorrect net)) _ _ (orderly-ends h)
-      (orderly-onward _ _ (votes-runs w u h) (λ _ w q h.
-      orderly-cond (allComplete (net .«num_nodes») w) _ _ (orderly-ends (frame-decided (net .«num_nodes») w₀ w h 1)) (orderly-ends h)))
+  Runs k = (w : List ℕ) (p : Tape) → Frame (net .«num_nodes») w₀ w → Orderly (Frame (net .«num_nodes») w₀) subsetKinds p (k w p)
 
   pub propose-subset-runs : Runs (proposeSubset net error)
-  unfolding proposeSubset
-  propose-subset-runs w u h =
-      orderly-cond (isValidator net) _ _
-      (orderly-onward _ _ (broadcast-at-runs 3 (net .«our_id») refl w u h) (λ _ w q h. try-runs w q h))
-      (orderly-ends h)
+  propose-subset-runs w u h = propose-subset-keeps _ _ _ net (subset-rules _ w₀) error tt 0 w u h
 
   pub handle-subset-runs : (content : Content) (p : ℕ) → Runs (handleSubset net error content p)
-  unfolding handleSubset
-  handle-subset-runs Broadcast p w u h = orderly-onward _ _ (broadcast-at-runs 4 p refl w u h) (λ _ w q h. try-runs w q h)
-  handle-subset-runs Agreement p w u h = orderly-onward _ _ (agreement-at-runs 5 p refl w u h) (λ _ w q h. try-runs w q h)
+  handle-subset-runs content p w u h = handle-subset-keeps _ _ _ net (subset-rules _ w₀) error tt content p tt 0 w u h
 
 -- THRESHOLD DECRYPTION
 abbrev Decrypts : {A : Type 0} → (ThresholdDecrypt → Tape → Run ThresholdDecrypt A) → Type 0
 Decrypts k = (td : ThresholdDecrypt) (p : Tape) → Orderly Any entryKinds p (k td p)
 
-set-runs : (proposer ciphertext : ℕ) → Decrypts (setCiphertext proposer ciphertext)
-unfolding setCiphertext
-set-runs proposer ciphertext td p =
-    orderly-cond (isSome (td .ciphertext)) _ _ (orderly-ends tt)
-    (orderly-about p 9 proposer td _ refl tt (λ a b q. orderly-cond (eqb a 0) _ _ (orderly-ends tt) (orderly-ends tt)))
-
-valid-runs : (i : ℕ) → Decrypts (isShareValid i)
-unfolding isShareValid
-valid-runs i td p =
-    orderly-cond (eqb (td .ciphertext) 0) _ _ (orderly-ends tt)
-    (orderly-about p 10 i td _ refl tt (λ a b q. orderly-ends tt))
-
-check-runs : (i : ℕ) → Decrypts (checkShare i)
-unfolding checkShare
-check-runs i td p =
-    orderly-cond (isSender td i) _ _
-    (orderly-onward _ _ (valid-runs i td p) (λ valid td q _.
-    orderly-cond (not valid) _ _ (orderly-before (quiet-fault 7 i 0 refl) (orderly-ends tt)) (orderly-ends tt)))
-    (orderly-ends tt)
-
-remove-runs : (n i : ℕ) → Decrypts (removeFrom n i)
-unfolding removeFrom
-remove-runs zero i td p = orderly-ends tt
-remove-runs (suc n) i td p = orderly-onward _ _ (check-runs i td p) (λ _ td q _. remove-runs n (i + 1) td q)
+-- with more kinds than an entry's as well
+pub inputs : (is : ℕ → Bool) → ((k : ℕ) → entryKinds k ≡ true → is k ≡ true) → Inputs (orders is) (ordering is Any)
+inputs is more = record {
+  combines = record {
+    checks = record { reads = λ k e. more k (within-wider 9 11 12 k (omega arith) e); faults = λ k a e. quiet-fault k a 0 (not-five k e); share = λ td i v u h. tt; removed = λ td i h. tt };
+    sends = λ a b. quiet-message 3 a b;
+    text = more 12 refl;
+    number = tt;
+    input = λ td h. tt;
+    end = λ td h. tt;
+  };
+  number = tt;
+  invalid = λ p. quiet-fault 4 p 0 refl;
+  ciphertext = λ td c u h. tt;
+}
+  where
+    not-five : (k : ℕ) → within 6 7 k ≡ true → eqb k 5 ≡ false
+    not-five k e = ne-eqb k 5 (λ z. omega (arith, leb-true 6 k (and-true (leb 6 k) (leb k 7) e .0)))
 
 module _ (net : NetworkInfo) (proposer : ℕ) where
-  own-runs : (k : Does) → Decrypts k → Decrypts (ownShare net proposer k)
-  unfolding ownShare
-  own-runs k h td p =
-      orderly-cond (isValidator net && net .«has_key») _ _
-      (orderly-ask p 11 td _ refl tt (λ a b q. orderly-before (quiet-message 3 proposer b) (h _ q)))
-      (h td p)
-
-  with-start : (k : Does) → Decrypts k → Decrypts (startWith net proposer k)
-  unfolding startWith
-  with-start k h td p =
-      orderly-cond (td .«had_input») _ _ (orderly-ends tt)
-      (orderly-cond (eqb (td .ciphertext) 0) _ _ (orderly-ends tt)
-      (orderly-onward _ _ (remove-runs 16 0 td p) (λ _ td q _. own-runs k h (withInput td) q)))
-
-  combine-runs : Decrypts combine
-  unfolding combine
-  combine-runs td p = orderly-ask p 12 td _ refl tt (λ a b q. orderly-cond (eqb a 0) _ _ (orderly-ends tt) (orderly-ends tt))
-
-  with-try : (k : Does) → Decrypts k → Decrypts (tryWith net k)
-  unfolding tryWith
-  with-try k h td p =
-      orderly-cond (td .terminated) _ _ (orderly-ends tt)
-      (orderly-cond (leb (countShares (td .shares)) (net .«num_faulty»)) _ _ (orderly-ends tt)
-      (orderly-cond (eqb (td .ciphertext) 0) _ _ (orderly-ends tt)
-      (orderly-onward _ _ (h (withEnd td) p) (λ _ td q _. combine-runs td q))))
-
-  start-runs : Decrypts (startDecryption net proposer)
-  unfolding startDecryption
-  start-runs td p = with-start _ (with-try _ (λ td p. orderly-ends tt)) td p
-
-  try-combine-runs : Decrypts (tryCombine net proposer)
-  unfolding tryCombine
-  try-combine-runs td p = with-try _ (with-start _ (λ td p. orderly-ends tt)) td p
-
-  store-runs : (sender share : ℕ) → Decrypts (storeShare net proposer sender share)
-  unfolding storeShare
-  store-runs sender share td p =
-      orderly-cond (isSender td sender) _ _ (orderly-before (quiet-fault 6 sender 0 refl) (orderly-ends tt)) (try-combine-runs _ p)
-
   pub share-runs : (sender share : ℕ) → Decrypts (handleShare net proposer sender share)
-  unfolding handleShare
-  share-runs sender share td p =
-      orderly-cond (td .terminated) _ _ (orderly-ends tt)
-      (orderly-onward _ _ (valid-runs sender td p) (λ valid td q _.
-      orderly-cond (not valid) _ _ (orderly-before (quiet-fault 7 sender 0 refl) (orderly-ends tt)) (store-runs sender share td q)))
+  share-runs sender share td p = share-keeps _ _ net proposer (inputs entryKinds (λ k e. e) .combines) sender share tt 0 td p tt
 
   pub input-runs : (value : ℕ) → Decrypts (inputCiphertext net proposer value)
-  unfolding inputCiphertext
-  input-runs value td p =
-      orderly-onward _ _ (set-runs proposer value td p) (λ verified td q _.
-      orderly-cond verified _ _ (start-runs td q) (orderly-before (quiet-fault 4 proposer 0 refl) (orderly-ends tt)))
-
--- THE EPOCH
-abbrev Quietly : (List ℕ → Tape → Run (List ℕ) (Unit {0})) → Type 0
-Quietly k = (w : List ℕ) (p : Tape) → Orderly Any anyKind p (k w p)
-
-unexpected-quiet : (m i : ℕ) (td : ThresholdDecrypt) → Quiet (unexpectedFrom m i td)
-unfolding unexpectedFrom
-unexpected-quiet zero i td = quiet-none
-unexpected-quiet (suc m) i td = quiet-append _ _ (here (isSender td i)) (unexpected-quiet m (i + 1) td)
-  where
-    here : (x : Bool) → Quiet (cond x (fault 2 i 0 ∷ []) [])
-    here true = quiet-fault 2 i 0 refl
-    here false = quiet-none
-
-shares-quiet : (n : ℕ) (d : DecryptionState) → Quiet (unexpectedShares n d)
-unfolding unexpectedShares
-shares-quiet n missing = quiet-none
-shares-quiet n (ongoing td) = unexpected-quiet n 0 td
-shares-quiet n (complete plaintext) = quiet-none
-
-module _ (net : NetworkInfo) where
-  process-runs : (p : ℕ) (w : List ℕ) (u : Tape) (r : Run ThresholdDecrypt (Option ℕ)) → Orderly Any anyKind u r → Orderly Any anyKind u (processDecryption net p w r)
-  unfolding processDecryption
-  process-runs p w u r k = orderly-onward _ _ (record { state = tt; past = k .past; quiet = k .quiet }) (λ _ w q _. orderly-ends tt)
-
-  entry-runs : (p : ℕ) (call : ThresholdDecrypt → Tape → Run ThresholdDecrypt (Option ℕ)) → Decrypts call → Quietly (callEntry net p call)
-  entry-runs p call h w u = by-entry net p w u (Orderly Any anyKind u) call (process-runs p w u _ (orderly-any (h _ u))) (orderly-ends tt)
-
-  send-runs : (p value : ℕ) → Quietly (sendDecryptionShare net p value)
-  unfolding sendDecryptionShare
-  send-runs p value w u =
-      orderly-about u 8 p w _ refl tt (λ a b q.
-      orderly-cond (eqb a 0) _ _ (orderly-before (quiet-fault 3 p 0 refl) (orderly-ends tt)) (entry-runs p _ (input-runs net p value) w q))
-
-  share-message-runs : (sender p share : ℕ) → Quietly (handleDecryptionShare net sender p share)
-  share-message-runs sender p share w u =
-      by-share net p w u (Orderly Any anyKind u) sender share (orderly-before (quiet-fault 2 sender 0 refl) (orderly-ends tt)) (entry-runs p _ (share-runs net p sender share) w u)
-
-  finish-at-runs : (p : ℕ) → Quietly (finishAt net p)
-  unfolding finishAt
-  finish-at-runs p w u = orderly-cond (isAccepted w p) _ _ (orderly-ends tt) (orderly-before (shares-quiet (net .«num_nodes») _) (orderly-ends tt))
-
-  finish-runs : (m p : ℕ) → Quietly (finishFrom net m p)
-  unfolding finishFrom
-  finish-runs zero p w u = orderly-ends tt
-  finish-runs (suc m) p w u = orderly-onward _ _ (finish-at-runs p w u) (λ _ w q _. finish-runs m (p + 1) w q)
-
-  module _ (strategy : SubsetHandlingStrategy) (encrypted : Bool) where
-    contribution-runs : (p value : ℕ) → Quietly (handleContribution net strategy encrypted p value)
-    unfolding handleContribution
-    contribution-runs p value w u =
-        orderly-onward _ _ (orderly-cond encrypted _ _ (send-runs p value w u) (orderly-ends tt)) (λ _ w q _. orderly-ends tt)
-
-    handle-from-runs : (m i : ℕ) → Quietly (handleFrom net strategy encrypted m i)
-    unfolding handleFrom
-    handle-from-runs zero i w u = orderly-ends tt
-    handle-from-runs (suc m) i w u = orderly-onward _ _ (contribution-runs _ _ w u) (λ _ w q _. handle-from-runs m (i + 1) w q)
-
-    contributions-runs : Quietly (handleContributions net strategy encrypted)
-    unfolding handleContributions
-    contributions-runs w u = orderly-inside (firstContributions (net .«num_nodes») 0) _ (λ w _. tt) (handle-from-runs (getD w countAt 0) 0 w u)
-
-    subset-runs : (done : Bool) → Quietly (processSubset net strategy encrypted done)
-    unfolding processSubset
-    subset-runs done w u =
-        orderly-onward _ _ (orderly-cond (handlesNow strategy done) _ _ (contributions-runs w u) (orderly-ends tt))
-        (λ _ w q _. orderly-cond done _ _ (finish-runs (net .«num_nodes») 0 _ q) (orderly-ends tt))
-
-    handed-runs : (k : ℕ) (v : Verdict Bool) (u : Tape) (r : Run (List ℕ) Bool) → Orderly Any anyKind u r → Orderly Any anyKind u (handedUp net strategy encrypted k v r)
-    unfolding handedUp
-    handed-runs k (going done) u r h = h
-    handed-runs k refused u r h = orderly-inside (firstContributions (net .«num_nodes») k) r (λ w _. tt) h
-    handed-runs k (failed error) u r h = orderly-inside (firstContributions (net .«num_nodes») k) r (λ w _. tt) h
-
-    call-runs : (call : List ℕ → Tape → Run (List ℕ) Bool) (w : List ℕ) (u : Tape) → Orderly Any anyKind u (call w u) → Orderly Any anyKind u (callSubset net strategy encrypted call w u)
-    unfolding callSubset
-    call-runs call w u h =
-        orderly-cond (isComplete w) _ _ (orderly-ends tt)
-        (orderly-onward _ _ (handed-runs (getD w countAt 0) _ u _ h) (λ done w q _. subset-runs done w q))
-
-    pub propose-runs : Quietly (propose net strategy encrypted)
-    unfolding propose
-    propose-runs w u =
-        orderly-ask u 2 w _ refl tt (λ a b q.
-        orderly-cond (eqb a 0) _ _ (orderly-ends tt) (call-runs _ w q (orderly-any (propose-subset-runs net 22 w w q (λ i o. refl)))))
-
-    pub content-runs : (sender p : ℕ) (content : MessageContent) → Quietly (handleMessageContent net strategy encrypted sender p content)
-    unfolding handleMessageContent
-    content-runs sender p (Subset content) w u = call-runs _ w u (orderly-any (handle-subset-runs net 23 w content p w u (λ i o. refl)))
-    content-runs sender p (DecryptionShare share) w u = share-message-runs sender p share w u
+  input-runs value td p = input-keeps _ _ net (inputs entryKinds (λ k e. e)) proposer value tt 0 td p tt
 
 -- THE EPOCH'S TWO CALLS ARE QUIET
+epoch-rules : (n : ℕ) → Rules (orders anyKind) (ordering anyKind Any) (ordering anyKind Any) n (ordering anyKind Any)
+epoch-rules n = record {
+  subset = record {
+    moves = record { reads = λ k e. refl; parts = λ k e. refl; agreed = λ s out h. tt; came = λ s out h. tt; voted = λ s out h. tt };
+    index = λ p l. tt;
+    stored = λ p m w t r i g h. orderly-inside (storeProposal n w p) r (λ s _. tt) (g tt);
+    added = λ p w o i h. tt;
+    decided = λ w h. tt;
+  };
+  handles = record {
+    entries = record { entered = λ p m w t r g h. let k = g tt in record { state = tt; past = k .past; quiet = k .quiet }; dropped = λ w o h. tt };
+    inputs = inputs anyKind (λ k e. refl);
+    reads = refl;
+    unreadable = λ p. quiet-fault 3 p 0 refl;
+    listed = λ i m w t r g h. g tt tt tt;
+    opened = λ p value w u h. tt;
+    accepted = λ p w i h. tt;
+  };
+  finishes = record { late = λ a. quiet-fault 2 a 0 refl; finished = λ p w h. tt; unexpected = λ p w h. tt };
+  emptied = λ m w t r g h. orderly-inside (firstContributions n 0) r (λ w _. tt) (g tt);
+  cut = λ m w t r g h. orderly-inside (firstContributions n (countOf w)) r (λ w _. tt) (g tt);
+  done = λ w h. tt;
+}
+
 pub quiet-proposed : (net : NetworkInfo) (strategy : SubsetHandlingStrategy) (encrypted : Bool) (w : List ℕ) (p : Tape) → Quiet (propose net strategy encrypted w p .log)
-quiet-proposed net strategy encrypted w p = propose-runs net strategy encrypted w p .quiet
+quiet-proposed net strategy encrypted w p = propose-keeps _ _ _ net _ (epoch-rules _) strategy encrypted refl tt tt w p tt .quiet
 
 pub quiet-handled : (net : NetworkInfo) (strategy : SubsetHandlingStrategy) (encrypted : Bool) (sender proposer : ℕ) (content : MessageContent) (w : List ℕ) (p : Tape)
     → Quiet (handleMessageContent net strategy encrypted sender proposer content w p .log)
-quiet-handled net strategy encrypted sender proposer content w p = content-runs net strategy encrypted sender proposer content w p .quiet
+quiet-handled net strategy encrypted sender proposer content w p = content-keeps _ _ _ net _ (epoch-rules _) strategy encrypted tt sender proposer content tt (λ share e. tt) w p tt .quiet

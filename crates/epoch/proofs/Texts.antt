@@ -1,27 +1,28 @@
 -- A run of threshold decryption goes on with the handle of the one answer 12 that it has read, or has read none. Assumes nothing.
-use Prim.Native.Nat.{ℕ, zero, suc, _+_}
-use mathlib.Core.Path.{_≡_, refl, ap, _∙_}
-use mathlib.Core.List.{List, [], _∷_}
-use mathlib.Core.Bool.{Bool, true, false, cond, _&&_, not}
+use Prim.Native.Nat.{ℕ, _<_}
+use mathlib.Core.Path.{_≡_, refl, sym, ap, _∙_}
+use mathlib.Core.Logic.{_⊎_, inl, inr}
+use native.Mathlib.Omega.{arith}
+use mathlib.Core.List.{List}
+use mathlib.Core.Bool.{Bool, true, false, cond}
 use mathlib.Core.Option.{Option, none, some}
-use lib.ListN.{set}
 use lib.Dec.{leb, eqb}
-use borrow.Author.Tests.{eqb-true, eqb-false, eq-eqb}
+use borrow.Author.Tests.{eqb-true, eqb-false, ne-eqb, leb-true}
 use Rattle.steps.specs.declared.network_info.NetworkInfo.{NetworkInfo}
-use Rattle.steps.specs.declared.reader.Answer.the-variants.{Got, Refused}
-use Rattle.steps.specs.Network.{isValidator}
-use Rattle.steps.specs.Answers.{Rec, Tape, tape, asked, askFor, ask, askAbout}
-use Rattle.steps.specs.Runs.{Verdict, going, refused, failed, Run, onwardAs, onward, heardAs, heard}
+use Rattle.steps.specs.Answers.{Rec, Tape, tape}
+use Rattle.steps.specs.Runs.{Verdict, going, refused, failed, Run}
 use Rattle.steps.specs.Taken.{orElse, concernedAfter, concerns, firstDecrypted}
 use Rattle.steps.proofs.Laws.{and-true}
 use Rattle.steps.proofs.Past.{Past, past-one}
 use Rattle.decryption.specs.declared.ThresholdDecrypt.{ThresholdDecrypt}
-use Rattle.decryption.specs.Decrypt.{withInput, withEnd, isSome, isSender, countShares, setCiphertext, isShareValid, checkShare, removeFrom, removeInvalidShares, ownShare, startWith, combine, tryWith, startDecryption, tryOutput, storeShare, handleMessage as handleShare}
-use Rattle.decryption.proofs.Laws.{valid-early}
-use Rattle.decryption.proofs.Cycle.{Does}
-use Rattle.decryption.proofs.Errors.{handle-keeps}
-use Rattle.steps.proofs.After.{AfterAs, After, after-map, after-cond, after-onward, Reads, after-ask, after-about}
+use Rattle.decryption.specs.Decrypt.{handleMessage as handleShare}
+use Rattle.steps.specs.Table.{within}
+use Rattle.steps.proofs.Logic.{Terms, Logic}
+use Rattle.decryption.proofs.Walk.{Does, handle-keeps as share-keeps}
+use Rattle.decryption.proofs.Errors.{handle-keeps, early-none}
+use Rattle.steps.proofs.After.{AfterAs, After, after-map, after-onward, Reads, after-ask, after-about}
 use Rattle.epoch.specs.Epoch.{inputCiphertext}
+use Rattle.epoch.proofs.Walk.{Inputs, input-keeps}
 use Rattle.epoch.proofs.Passes.{decryptionKinds, entry-past, share-runs, input-runs}
 
 -- what holds of a run's state and answers, whatever its verdict
@@ -80,50 +81,70 @@ opens-none ws q who = go (concerns who q)
     go true = refl
     go false = refl
 
--- SHARES are checked without an answer 12
-valid-same : (i : ℕ) (td : ThresholdDecrypt) (p : Tape) → After (isShareValid i td p) (λ _ td′ z. Same (p .rest) (z .rest))
-unfolding isShareValid
-valid-same i td p =
-    after-cond (eqb (td .ciphertext) 0) _ _ _ (λ q who. refl)
-    (after-about p 10 td _ _ i (λ a b u r. reads-same p 10 i u refl refl r))
+-- AS A LOGIC OF RUNS: what was in hand and what is decrypted in ws is what is in hand then and decrypted in r
+abbrev pub Tells : Option ℕ → List Rec → Option ℕ → List Rec → Type 0
+Tells x ws y r = (q : ℕ) (who : Option ℕ) → orElse (cond (concerns who q) x none) (firstDecrypted q who ws) ≡ orElse (cond (concerns who q) y none) (firstDecrypted q who r)
 
-check-same : (i : ℕ) (td : ThresholdDecrypt) (p : Tape) → After (checkShare i td p) (λ _ td′ z. Same (p .rest) (z .rest))
-unfolding checkShare
-check-same i td p =
-    after-cond (isSender td i) _ _ _
-    (after-onward (isShareValid i td p) _ _
-    (after-map (isShareValid i td p) _ _ (valid-same i td p) (λ valid td u s. after-cond (not valid) _ _ _ s s)))
-    (λ q who. refl)
+tells-opens : (ws r : List Rec) (o : Option ℕ) → Tells none ws o r → Opens ws o r
+tells-opens ws r o h q who = opens-none ws q who ∙ h q who
 
-remove-same : (n i : ℕ) (td : ThresholdDecrypt) (p : Tape) → After (removeFrom n i td p) (λ _ td′ z. Same (p .rest) (z .rest))
-unfolding removeFrom
-remove-same zero i td p = λ q who. refl
-remove-same (suc n) i td p =
-    after-onward (checkShare i td p) _ _
-    (after-map (checkShare i td p) _ _ (check-same i td p) (λ _ td u s.
-    after-map (removeFrom n (i + 1) td u) _ _ (remove-same n (i + 1) td u) (λ _ td z t q who. s q who ∙ t q who)))
+abbrev pub texts : Terms
+texts = record {
+  Kind = λ k. (eqb k 8 ≡ false) × (eqb k 12 ≡ false);
+  Text = Unit {0};
+  Parts = ⊥;
+  Writes = λ e. Unit {0};
+  Number = λ n. Unit {0};
+  Handle = λ b. Unit {0};
+  Index = λ i. Unit {0};
+}
 
--- A RUN'S VALUE is R of what was read, where R allows for answers that decrypt nothing
-module _ (net : NetworkInfo) (proposer : ℕ) (R : Option ℕ → List Rec → List Rec → Type 0) (still : (ws : List Rec) → R none ws ws)
-    (more : (ws r z : List Rec) (o : Option ℕ) → Same ws r → R o r z → R o ws z) where
-  abbrev Tells : Does → Type 0
-  Tells k = (td : ThresholdDecrypt) (p : Tape) → After (k td p) (λ o td′ z. R o (p .rest) (z .rest))
+-- an answer of another kind, and a 12
+tells-after : (x y : Option ℕ) (p : Tape) (kind b : ℕ) (u : Tape) (z : List Rec) → (eqb kind 8 ≡ false) × (eqb kind 12 ≡ false) → Reads p kind b u → Tells x (u .rest) y z → Tells x (p .rest) y z
+tells-after x y p kind b u z e r h q who = ap (orElse (cond (concerns who q) x none)) (reads-same p kind b u (e .0) (e .1) r q who) ∙ h q who
 
-  own-tells : (k : Does) → Tells k → Tells (ownShare net proposer k)
-  unfolding ownShare
-  own-tells k h td p =
-      after-cond (isValidator net && net .«has_key») _ _ _
-      (after-ask p 11 td _ _ (λ a b u r. after-map (k _ u) _ _ (h _ u) (λ o td z t. more (p .rest) (u .rest) (z .rest) o (reads-same p 11 b u refl refl r) t)))
-      (h td p)
+tells-text : (y : Option ℕ) (p : Tape) (b : ℕ) (u : Tape) (z : List Rec) → Reads p 12 b u → Tells (some b) (u .rest) y z → Tells none (p .rest) y z
+tells-text y p b u z r h q who = sym (opens-none (p .rest) q who) ∙ reads-twelve p b u r q who ∙ h q who
 
-  with-start : (k : Does) → Tells k → Tells (startWith net proposer k)
-  unfolding startWith
-  with-start k h td p =
-      after-cond (td .«had_input») _ _ _ (still (p .rest))
-      (after-cond (eqb (td .ciphertext) 0) _ _ _ tt
-      (after-onward (removeInvalidShares td p) _ _
-      (after-map (removeInvalidShares td p) _ _ (remove-same 16 0 td p) (λ _ td u s.
-      after-map (ownShare net proposer k (withInput td) u) _ _ (own-tells k h (withInput td) u) (λ o td z t. more (p .rest) (u .rest) (z .rest) o s t)))))
+abbrev telling : (S : Type 0) → Logic texts S
+telling S = record {
+  Good = λ A f h s p r. After r (λ a t z. Tells (h .handle) (p .rest) (f a .handle) (z .rest));
+  Step = λ x s y t. x ≡ y;
+  steps = λ A f x y n s t p r e g. rw e g;
+  goes = λ A f h a s p e l q who. rw e;
+  fails = λ A f h n s p e. tt;
+  writes = λ A f x n e s p r w g. g;
+  asks = λ A f x n kind s p k e g. after-ask p kind s k _ (λ a b u r. after-map (k a b u) _ _ (g a b u tt) (λ v t z h. tells-after x (f v .handle) p kind b u (z .rest) e r h));
+  asksAbout = λ A f x n kind who s p k e g. after-about p kind s k _ who (λ a b u r. after-map (k a b u) _ _ (g a b u) (λ v t z h. tells-after x (f v .handle) p kind who u (z .rest) e r h));
+  asksText = λ A f n s p k e g. after-ask p 12 s k _ (λ a b u r. after-map (k a b u) _ _ (g a b u tt) (λ v t z h. tells-text (f v .handle) p b u (z .rest) r h));
+  parts = λ content proposer n s p e. absurd e;
+  spares = λ A n left all s p r e g. g;
+  goesOn = λ A B f g h s p r k l m. after-onward r k _ (after-map r _ _ l (λ a t z u. after-map (k a t z) _ _ (m a t z) (λ b t y v q who. u q who ∙ v q who)));
+}
+
+inputs : Inputs texts (telling ThresholdDecrypt)
+inputs = record {
+  combines = record {
+    checks = record {
+      reads = λ k e. (other 8 k (inl (omega arith)) e, other 12 k (inr (omega arith)) e);
+      faults = λ k a e. tt;
+      share = λ td i v u. refl;
+      removed = λ td i. refl;
+    };
+    sends = λ a b. tt;
+    text = tt;
+    number = tt;
+    input = λ td. refl;
+    end = λ td. refl;
+  };
+  number = tt;
+  invalid = λ p. tt;
+  ciphertext = λ td c u. refl;
+}
+  where
+    other : (m k : ℕ) → (m < 9) ⊎ (11 < m) → within 9 11 k ≡ true → eqb k m ≡ false
+    other m k (inl l) e = ne-eqb k m (λ z. omega (arith, leb-true 9 k (and-true (leb 9 k) (leb k 11) e .0)))
+    other m k (inr l) e = ne-eqb k m (λ z. omega (arith, leb-true k 11 (and-true (leb 9 k) (leb k 11) e .1)))
 
 -- what a run has read
 pub record Ran (ws : List Rec) (o : Option ℕ) (r : List Rec) : Type 0 where
@@ -137,74 +158,18 @@ pub record SharedWith (td td′ : ThresholdDecrypt) (ws : List Rec) (o : Option 
   pub keeps : td′ .ciphertext ≡ td .ciphertext
 
 module _ (net : NetworkInfo) (proposer : ℕ) where
-  abbrev Combines : Does → Type 0
-  Combines k = (td : ThresholdDecrypt) (p : Tape) → After (k td p) (λ o td′ z. Opens (p .rest) o (z .rest))
+  abbrev Opening : Does → Type 0
+  Opening k = (td : ThresholdDecrypt) (p : Tape) → After (k td p) (λ o td′ z. Opens (p .rest) o (z .rest))
 
-  opens-more : (ws r z : List Rec) (o : Option ℕ) → Same ws r → Opens r o z → Opens ws o z
-  opens-more ws r z o s t q who = s q who ∙ t q who
-
-  combine-opens : Combines combine
-  unfolding combine
-  combine-opens td p = after-ask p 12 td _ _ (λ a b u r. after-cond (eqb a 0) _ _ _ tt (reads-twelve p b u r))
-
-  -- where starting decrypts nothing
-  with-try : (k : Does) → ((td : ThresholdDecrypt) (p : Tape) → After (k td p) (λ o td′ z. Same (p .rest) (z .rest))) → Combines (tryWith net k)
-  unfolding tryWith
-  with-try k h td p =
-      after-cond (td .terminated) _ _ _ (opens-none (p .rest))
-      (after-cond (leb (countShares (td .shares)) (net .«num_faulty»)) _ _ _ (opens-none (p .rest))
-      (after-cond (eqb (td .ciphertext) 0) _ _ _ (opens-none (p .rest))
-      (after-onward (k (withEnd td) p) _ _
-      (after-map (k (withEnd td) p) _ _ (h (withEnd td) p) (λ _ td u s.
-      after-map (combine td u) _ _ (combine-opens td u) (λ o td z t. opens-more (p .rest) (u .rest) (z .rest) o s t))))))
-
-  start-opens : Combines (startDecryption net proposer)
-  unfolding startDecryption
-  start-opens td p = with-start net proposer (λ o ws r. Opens ws o r) opens-none opens-more _ (with-try _ (λ td p q who. refl)) td p
-
-  try-opens : Combines (tryOutput net proposer)
-  unfolding tryOutput
-  try-opens td p =
-      with-try _ (λ td p. with-start net proposer (λ o ws r. Same ws r) (λ ws q who. refl) (λ ws r z o s t q who. s q who ∙ t q who) _ (λ td p q who. refl) td p) td p
-
-  store-opens : (sender share : ℕ) → Combines (storeShare net proposer sender share)
-  unfolding storeShare
-  store-opens sender share td p = after-cond (isSender td sender) _ _ _ (opens-none (p .rest)) (try-opens _ p)
-
-  share-opens : (sender share : ℕ) → Combines (handleShare net proposer sender share)
-  unfolding handleShare
+  share-opens : (sender share : ℕ) → Opening (handleShare net proposer sender share)
   share-opens sender share td p =
-      after-cond (td .terminated) _ _ _ (opens-none (p .rest))
-      (after-onward (isShareValid sender td p) _ _
-      (after-map (isShareValid sender td p) _ _ (valid-same sender td p) (λ valid td u s.
-      after-cond (not valid) _ _ _ (opens-more (p .rest) (u .rest) (u .rest) none s (opens-none (u .rest)))
-      (after-map (storeShare net proposer sender share td u) _ _ (store-opens sender share td u) (λ o td z t. opens-more (p .rest) (u .rest) (z .rest) o s t)))))
+      after-map (handleShare net proposer sender share td p) _ _ (share-keeps _ (telling ThresholdDecrypt) net proposer (inputs .combines) sender share tt 0 td p)
+      (λ o td′ z h. tells-opens (p .rest) (z .rest) o h)
 
-  -- without a ciphertext nothing is combined
-  share-early : (sender share : ℕ) (td : ThresholdDecrypt) (p : Tape) → td .ciphertext ≡ 0 → After (handleShare net proposer sender share td p) (λ o td′ z. o ≡ none)
-  unfolding handleShare storeShare tryOutput tryWith onward onwardAs
-  share-early sender share td p e =
-      after-cond (td .terminated) _ _ _ refl
-      (rw (valid-early sender td p e, eq-eqb (td .ciphertext) 0 e)
-      (after-cond (isSender td sender) _ _ _ refl
-      (after-cond (td .terminated) _ _ _ refl
-      (after-cond (leb (countShares (set (td .shares) sender share)) (net .«num_faulty»)) _ _ _ refl
-      refl))))
-
-  set-same : (ciphertext : ℕ) (td : ThresholdDecrypt) (p : Tape) → After (setCiphertext proposer ciphertext td p) (λ _ td′ z. Same (p .rest) (z .rest))
-  unfolding setCiphertext
-  set-same ciphertext td p =
-      after-cond (isSome (td .ciphertext)) _ _ _ tt
-      (after-about p 9 td _ _ proposer (λ a b u r. let s = reads-same p 9 proposer u refl refl r in after-cond (eqb a 0) _ _ _ s s))
-
-  input-opens : (value : ℕ) → Combines (inputCiphertext net proposer value)
-  unfolding inputCiphertext
+  input-opens : (value : ℕ) → Opening (inputCiphertext net proposer value)
   input-opens value td p =
-      after-onward (setCiphertext proposer value td p) _ _
-      (after-map (setCiphertext proposer value td p) _ _ (set-same value td p) (λ verified td u s.
-      after-cond verified _ _ _
-      (after-map (startDecryption net proposer td u) _ _ (start-opens td u) (λ o td z t. opens-more (p .rest) (u .rest) (z .rest) o s t))
-      (opens-more (p .rest) (u .rest) (u .rest) none s (opens-none (u .rest)))))
+      after-map (inputCiphertext net proposer value td p) _ _ (input-keeps _ (telling ThresholdDecrypt) net inputs proposer value tt 0 td p)
+      (λ o td′ z h. tells-opens (p .rest) (z .rest) o h)
 
   pub input-ran : (value : ℕ) (td : ThresholdDecrypt) (p : Tape) → After (inputCiphertext net proposer value td p) (λ o td′ z. Ran (p .rest) o (z .rest))
   input-ran value td p =
@@ -221,5 +186,5 @@ module _ (net : NetworkInfo) (proposer : ℕ) where
       (λ o td′ z h. record { ran = record { opens = h .0 .0; past = h .1 .0 }; early = h .0 .1; keeps = h .1 .1 })
     where
       go : (x : Bool) → eqb (td .ciphertext) 0 ≡ x → After (handleShare net proposer sender share td p) (λ o td′ z. td .ciphertext ≡ 0 → o ≡ none)
-      go true e = after-map (handleShare net proposer sender share td p) _ _ (share-early sender share td p (eqb-true _ _ e)) (λ o td′ z h _. h)
+      go true e = rw (early-none net proposer sender share td p (eqb-true _ _ e)) (λ z. refl)
       go false e = after-any (handleShare net proposer sender share td p) _ (λ o td′ z n. absurd (eqb-false (td .ciphertext) 0 e n))

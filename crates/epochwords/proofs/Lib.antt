@@ -2,6 +2,7 @@
 pub mod Storing
 pub mod RangesWords
 pub mod Entries
+pub mod Walk
 pub mod Readable
 pub mod BatchCode
 pub mod RangeCode

@@ -17,45 +17,19 @@ use Rattle.steps.specs.declared.reader.Output.the-variants.{Missing}
 use Rattle.steps.specs.Table.{shapeOk, tableOk}
 use Rattle.steps.specs.Answers.{Rec, Tape, tape, link, recAt, onRecord, walk, chain, tapeOf, Asked, asked, askFor, ask, askAbout}
 use Rattle.steps.specs.Steps.{Entry, message, fault}
-use Rattle.steps.specs.Runs.{Verdict, going, refused, failed, Run, ends, before, onwardAs, onward, heardAs, heard, inside}
+use Rattle.steps.specs.Runs.{Verdict, going, refused, failed, Run, ends, before, onwardAs, onward, heardAs, heard}
 use Rattle.steps.specs.Parts.{isPart, messageKind, faultKind, partEntries, lastOutput, Told, partsFrom, readParts}
 use Rattle.steps.proofs.Laws.{and-true, on-bounds, link-up, link-end}
 use Rattle.steps.proofs.Parts.{parts-on, parts-off}
 use Rattle.steps.proofs.Ranges.{by-test}
-use Rattle.steps.proofs.Logic.{Hand, hand, given, anything, Logic}
+use Rattle.steps.proofs.Logic.{Hand, hand, nothing, given, anything, Logic}
 
 -- a run from tape p that writes at most one entry for each record it reads, and `more` besides
 pub record Bounded {S A : Type 0} (more : ℕ) (p : Tape) (r : Run S A) : Type 0 where
   pub short : length (r .log) + length (r .tape .rest) ≤ length (p .rest) + more
 
-module _ {S A : Type 0} where
-  pub bounded-ends : {more : ℕ} {p : Tape} {s : S} {v : Verdict A} → Bounded more p (ends v s p)
-  bounded-ends = record { short = omega arith }
-
-  pub bounded-wider : (m more : ℕ) (p : Tape) (r : Run S A) → m ≤ more → Bounded m p r → Bounded more p r
-  bounded-wider m more p r l b = record { short = omega (arith, b .short) }
-
-  -- entries before a run's own
-  pub bounded-before : (l : List Entry) (m more : ℕ) (p : Tape) (r : Run S A) → length l + m ≤ more → Bounded m p r → Bounded more p (before l r)
-  bounded-before l m more p r h b = record { short = omega (arith, b .short, length-append l (r .log)) }
-
-  pub bounded-one : (e : Entry) (more : ℕ) (p : Tape) (r : Run S A) → Bounded more p r → Bounded (more + 1) p (before (e ∷ []) r)
-  bounded-one e more p r b = bounded-before (e ∷ []) more (more + 1) p r (omega arith) b
-
-  pub bounded-cond : (x : Bool) (more : ℕ) (p : Tape) (r s : Run S A) → Bounded more p r → Bounded more p s → Bounded more p (cond x r s)
-  bounded-cond true more p r s f g = f
-  bounded-cond false more p r s f g = g
-
-  -- after an answer one entry more is allowed
-  heard-bounded : (more : ℕ) (p : Tape) (q : Asked) (s : S) (k : ℕ → ℕ → Tape → Run S A)
-      → ((a b : ℕ) → q .answer ≡ Got a b → length (q .tape .rest) + 1 ≤ length (p .rest)) → length (q .tape .rest) ≤ length (p .rest)
-      → ((a b : ℕ) (u : Tape) → Bounded (more + 1) u (k a b u)) → Bounded more p (heard q s k)
-  unfolding heard heardAs
-  heard-bounded more p q s k g l f = go (q .answer) refl
-    where
-      go : (x : Answer) → q .answer ≡ x → Bounded more p (heardAs x s (q .tape) k)
-      go (Got a b) e = record { short = omega (arith, f a b (q .tape) .short, g a b e) }
-      go Refused e = record { short = omega arith }
+pub bounded-wider : {S A : Type 0} (m more : ℕ) (p : Tape) (r : Run S A) → m ≤ more → Bounded m p r → Bounded more p r
+bounded-wider m more p r l b = record { short = omega (arith, b .short) }
 
 -- what asking leaves
 record Fewer (p : Tape) (q : Asked) : Type 0 where
@@ -77,37 +51,6 @@ for-fewer want p = go (p .rest) refl
         by true = record { got = λ a b _. rw e (omega arith); left = rw e (omega arith) }
         by false = none
 
-module _ {S A : Type 0} (more : ℕ) (p : Tape) where
-  pub bounded-ask : (kind : ℕ) (s : S) (k : ℕ → ℕ → Tape → Run S A) → ((a b : ℕ) (q : Tape) → Bounded (more + 1) q (k a b q)) → Bounded more p (heard (ask p kind) s k)
-  unfolding ask
-  bounded-ask kind s k f = let u = for-fewer (λ r. eqb (r .kind) kind) p in heard-bounded more p _ s k (u .got) (u .left) f
-
-  pub bounded-about : (kind who : ℕ) (s : S) (k : ℕ → ℕ → Tape → Run S A) → ((a b : ℕ) (q : Tape) → Bounded (more + 1) q (k a b q))
-      → Bounded more p (heard (askAbout p kind who) s k)
-  unfolding askAbout
-  bounded-about kind who s k f = let u = for-fewer (λ r. eqb (r .kind) kind && eqb (r .b) who) p in heard-bounded more p _ s k (u .got) (u .left) f
-
--- Rust's `?`: what both parts may write. The second is asked for only where the first goes on
-pub bounded-then : {S A B : Type 0} (m more : ℕ) (p : Tape) (r : Run S A) (k : A → S → Tape → Run S B) → Bounded m p r
-    → ((a : A) → r .verdict ≡ going a → Bounded more (r .tape) (k a (r .state) (r .tape))) → Bounded (m + more) p (onward r k)
-unfolding onward onwardAs
-bounded-then {A = A} m more p r k h f = go (r .verdict) refl
-  where
-    go : (v : Verdict A) → r .verdict ≡ v → Bounded (m + more) p (onwardAs v r k)
-    go (going a) e =
-        let u = k a (r .state) (r .tape) in
-        record { short = omega (arith, h .short, f a e .short, length-append (r .log) (u .log)) }
-    go refused e = record { short = omega (arith, h .short) }
-    go (failed n) e = record { short = omega (arith, h .short) }
-
--- where the first part writes nothing besides
-pub bounded-onward : {S A B : Type 0} (more : ℕ) (p : Tape) (r : Run S A) (k : A → S → Tape → Run S B) → Bounded 0 p r
-    → ((a : A) (s : S) (q : Tape) → Bounded more q (k a s q)) → Bounded more p (onward r k)
-bounded-onward more p r k h f = bounded-wider (0 + more) more p _ (omega arith) (bounded-then 0 more p r k h (λ a _. f a (r .state) (r .tape)))
-
-pub bounded-inside : {S T A : Type 0} {more : ℕ} {p : Tape} (put : T → S) (r : Run T A) → Bounded more p r → Bounded more p (inside put r)
-bounded-inside put r b = record { short = b .short }
-
 -- AS A LOGIC OF RUNS, in which a value leaves some of the entries to what comes after it
 unfoldable pub left : {A : Type 0} → (A → Hand) → Verdict A → ℕ
 left f (going a) = f a .entries
@@ -119,6 +62,15 @@ pub record Spends {S A : Type 0} (f : A → Hand) (h : Hand) (p : Tape) (r : Run
 
 pub spends-bounded : {S A : Type 0} (f : A → Hand) (h : Hand) (p : Tape) (r : Run S A) → Spends f h p r → Bounded (h .entries) p r
 spends-bounded f h p r b = record { short = omega (arith, b .spent) }
+
+pub bounded-spends : {S A : Type 0} (more : ℕ) (p : Tape) (r : Run S A) → Bounded more p r → Spends nothing (hand none more) p r
+unfolding left
+bounded-spends {A = A} more p r b = record { spent = go (r .verdict) }
+  where
+    go : (v : Verdict A) → length (r .log) + length (r .tape .rest) + left nothing v ≤ length (p .rest) + more
+    go (going a) = omega (arith, b .short)
+    go refused = omega (arith, b .short)
+    go (failed n) = omega (arith, b .short)
 
 spends-for : {S A : Type 0} (f : A → Hand) (x y : Option ℕ) (n : ℕ) (want : Rec → Bool) (s : S) (p : Tape) (k : ℕ → ℕ → Tape → Run S A)
     → ((a b : ℕ) (q : Tape) → Spends f (hand y (n + 1)) q (k a b q)) → Spends f (hand x n) p (heard (askFor want p (p .rest)) s k)
@@ -190,12 +142,19 @@ module _ (content : Content) (proposer : ℕ) where
           (omega (arith, length-append (partEntries content proposer (r .kind) (r .a) (r .b)) (later .log), part-one content proposer (r .kind) (r .a) (r .b)))
       go false e h = rw (parts-off content proposer o i r rs e) (omega arith)
 
-  pub bounded-parts : {S : Type 0} (s : S) (p : Tape) → Bounded 0 p (readParts content proposer s p)
-  bounded-parts s p = record { short = omega (arith, parts-few Missing (p .place) (p .rest)) }
-
   pub spends-parts : {S : Type 0} (n : ℕ) (s : S) (p : Tape) → Spends (λ o. hand (given o) 0) (hand none n) p (readParts content proposer s p)
   unfolding left
   spends-parts n s p = record { spent = omega (arith, parts-few Missing (p .place) (p .rest)) }
+
+pub spends-spares : {S A : Type 0} (n c all : ℕ) (p : Tape) (r : Run S A) → c + n ≤ all → Spends nothing (hand none n) p r → Spends (λ a. hand none c) (hand none all) p r
+unfolding left
+spends-spares {A = A} n c all p r e g = record { spent = go (r .verdict) (g .spent) }
+  where
+    go : (v : Verdict A) → length (r .log) + length (r .tape .rest) + left nothing v ≤ length (p .rest) + n
+        → length (r .log) + length (r .tape .rest) + left {A = A} (λ a. hand none c) v ≤ length (p .rest) + all
+    go (going a) l = omega arith
+    go refused l = omega arith
+    go (failed m) l = omega arith
 
 abbrev pub counting : (S : Type 0) → Logic anything S
 counting S = record {
@@ -207,8 +166,9 @@ counting S = record {
   writes = λ A f x n e s p r w g. spends-one f x n e p r g;
   asks = λ A f x n kind s p k e g. spends-ask f x x n kind s p k (λ a b q. g a b q tt);
   asksAbout = λ A f x n kind who s p k e g. spends-about f x n kind who s p k g;
-  asksText = λ A f n s p k g. spends-ask f none none n 12 s p k (λ a b q. record { spent = g a b q tt .spent });
+  asksText = λ A f n s p k e g. spends-ask f none none n 12 s p k (λ a b q. record { spent = g a b q tt .spent });
   parts = λ content proposer n s p e. spends-parts content proposer n s p;
+  spares = λ A n left all s p r e g. spends-spares n left all p r e g;
   goesOn = λ A B f g h s p r k b m. spends-onward f g h p r k b m;
 }
 

@@ -39,7 +39,7 @@ only-onward {A = A} {ok = ok} r {k} h f = go (r .verdict) (h .fails)
 
 -- as a logic of runs
 abbrev pub numbers : (ℕ → Bool) → Terms
-numbers ok = record { Kind = λ k. Unit {0}; Parts = Unit {0}; Writes = λ e. Unit {0}; Number = λ n. ok n ≡ true; Handle = λ b. Unit {0}; Index = λ i. Unit {0} }
+numbers ok = record { Kind = λ k. Unit {0}; Text = Unit {0}; Parts = Unit {0}; Writes = λ e. Unit {0}; Number = λ n. ok n ≡ true; Handle = λ b. Unit {0}; Index = λ i. Unit {0} }
 
 abbrev pub failing : (ok : ℕ → Bool) (S : Type 0) → Logic (numbers ok) S
 failing ok S = record {
@@ -51,7 +51,8 @@ failing ok S = record {
   writes = λ A f x n e s p r w g. record { fails = g .fails };
   asks = λ A f x n kind s p k e g. only-heard (ask p kind) s (λ a b q. g a b q tt);
   asksAbout = λ A f x n kind who s p k e g. only-heard (askAbout p kind who) s g;
-  asksText = λ A f n s p k g. only-heard (ask p 12) s (λ a b q. g a b q tt);
+  asksText = λ A f n s p k e g. only-heard (ask p 12) s (λ a b q. g a b q tt);
   parts = λ content proposer n s p e. record { fails = tt };
+  spares = λ A n left all s p r e g. g;
   goesOn = λ A B f g h s p r k l m. only-onward r l m;
 }

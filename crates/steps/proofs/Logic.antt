@@ -1,8 +1,8 @@
 -- ONE LOGIC OF RUNS. A walk of a layer goes through its definitions once, for every property of runs that has the rules below; the theorems of
 -- that layer are instances. Assumes nothing.
-use Prim.Native.Nat.{ℕ, _+_, _≤_}
+use Prim.Native.Nat.{ℕ, _+_, _-_, _≤_}
 use mathlib.Core.Path.{_≡_, refl}
-use mathlib.Core.List.{[], _∷_}
+use mathlib.Core.List.{List, [], _∷_, _++_}
 use mathlib.Core.Bool.{Bool, true, false, cond}
 use mathlib.Core.Option.{Option, none, some}
 use native.Mathlib.Omega.{arith}
@@ -31,19 +31,23 @@ abbrev pub given : Output → Option ℕ
 given Missing = none
 given (Value v) = some v
 
--- WHAT MAY BE READ (answers by their kinds, and whether parts), written and failed with, and what is known of a handle that was read and of the
--- index of a node
+-- WHAT MAY BE READ (answers by their kinds, a 12 whose handle is handed up, parts), written and failed with, and what is known of a handle that
+-- was read and of the index of a node
 pub record Terms : Type 1 where
   pub Kind : ℕ → Type 0
+  pub Text : Type 0
   pub Parts : Type 0
   pub Writes : Entry → Type 0
   pub Number : ℕ → Type 0
   pub Handle : ℕ → Type 0
   pub Index : ℕ → Type 0
 
--- a property for which these make no difference
+-- a property for which these make no difference, but perhaps that an index is one; or not that either
+abbrev pub about : (ℕ → Type 0) → Terms
+about index = record { Kind = λ k. Unit {0}; Text = Unit {0}; Parts = Unit {0}; Writes = λ e. Unit {0}; Number = λ n. Unit {0}; Handle = λ b. Unit {0}; Index = index }
+
 abbrev pub anything : Terms
-anything = record { Kind = λ k. Unit {0}; Parts = Unit {0}; Writes = λ e. Unit {0}; Number = λ n. Unit {0}; Handle = λ b. Unit {0}; Index = λ i. Unit {0} }
+anything = about (λ i. Unit {0})
 
 -- THE RULES, for runs of the state S
 pub record Logic (T : Terms) (S : Type 0) : Type 1 where
@@ -61,9 +65,11 @@ pub record Logic (T : Terms) (S : Type 0) : Type 1 where
       → ((a b : ℕ) (q : Tape) → T .Handle b → Good A f (hand x (n + 1)) s q (k a b q)) → Good A f (hand x n) s p (heard (ask p kind) s k)
   pub asksAbout : (A : Type 0) (f : A → Hand) (x : Option ℕ) (n kind who : ℕ) (s : S) (p : Tape) (k : ℕ → ℕ → Tape → Run S A) → T .Kind kind
       → ((a b : ℕ) (q : Tape) → Good A f (hand x (n + 1)) s q (k a b q)) → Good A f (hand x n) s p (heard (askAbout p kind who) s k)
-  pub asksText : (A : Type 0) (f : A → Hand) (n : ℕ) (s : S) (p : Tape) (k : ℕ → ℕ → Tape → Run S A)
+  pub asksText : (A : Type 0) (f : A → Hand) (n : ℕ) (s : S) (p : Tape) (k : ℕ → ℕ → Tape → Run S A) → T .Text
       → ((a b : ℕ) (q : Tape) → T .Handle b → Good A f (hand (some b) (n + 1)) s q (k a b q)) → Good A f (hand none n) s p (heard (ask p 12) s k)
   pub parts : (content : Content) (proposer n : ℕ) (s : S) (p : Tape) → T .Parts → Good Output (λ o. hand (given o) 0) (hand none n) s p (readParts content proposer s p)
+  -- entries that are allowed besides are left over, or not used
+  pub spares : (A : Type 0) (n left all : ℕ) (s : S) (p : Tape) (r : Run S A) → left + n ≤ all → Good A nothing (hand none n) s p r → Good A (λ a. hand none left) (hand none all) s p r
   -- Rust's `?`
   pub goesOn : (A B : Type 0) (f : A → Hand) (g : B → Hand) (h : Hand) (s : S) (p : Tape) (r : Run S A) (k : A → S → Tape → Run S B)
       → Good A f h s p r → ((a : A) (t : S) (q : Tape) → Good B g (f a) t q (k a t q)) → Good B g h s p (onward r k)
@@ -84,3 +90,14 @@ module _ {T : Terms} {S : Type 0} (L : Logic T S) where
   -- by a test
   pub test : {A : Type 0} {f : A → Hand} {h : Hand} {s : S} {p : Tape} (x : Bool) {r t : Run S A} → (x ≡ true → L .Good A f h s p r) → (x ≡ false → L .Good A f h s p t) → L .Good A f h s p (cond x r t)
   test x {r} {t} g k = either (L .Good _ _ _ _ _) x r t g k
+
+  -- an entry of those that are allowed
+  pub one : {A : Type 0} {f : A → Hand} {x : Option ℕ} (n : ℕ) (e : Entry) (s : S) (p : Tape) (r : Run S A) → 1 ≤ n → T .Writes e
+      → L .Good A f (hand x (n - 1)) s p r → L .Good A f (hand x n) s p (before (e ∷ []) r)
+  one {A} {f} {x} n e s p r l w g = let z : (n - 1) + 1 ≡ n = omega arith in rw z at (L .writes A f x (n - 1) e s p r w g)
+
+  -- and one that is perhaps written, before others
+  pub perhaps : {A : Type 0} {f : A → Hand} {x : Option ℕ} (b : Bool) (n : ℕ) (e : Entry) (l : List Entry) (s : S) (p : Tape) (r : Run S A) → 1 ≤ n → T .Writes e
+      → ((m : ℕ) → n - 1 ≤ m → L .Good A f (hand x m) s p (before l r)) → L .Good A f (hand x n) s p (before (cond b (e ∷ []) [] ++ l) r)
+  perhaps true n e l s p r h w g = one n e s p _ h w (g (n - 1) (omega arith))
+  perhaps false n e l s p r h w g = g n (omega arith)

@@ -235,7 +235,7 @@ module _ (content : Content) (proposer : ℕ) where
 
 -- AS A LOGIC OF RUNS among n nodes: whatever is asked for but messages
 abbrev pub small : ℕ → Terms
-small n = record { Kind = λ k. eqb k 16 ≡ false; Parts = Unit {0}; Writes = λ e. Unit {0}; Number = λ n. Unit {0}; Handle = λ b. b < 0x1_0000_0000; Index = λ i. i < n }
+small n = record { Kind = λ k. eqb k 16 ≡ false; Text = Unit {0}; Parts = Unit {0}; Writes = λ e. Unit {0}; Number = λ n. Unit {0}; Handle = λ b. b < 0x1_0000_0000; Index = λ i. i < n }
 
 abbrev pub keeping : {S : Type 0} (n : ℕ) → (S → Type 0) → Logic (small n) S
 unfolding SmallOption
@@ -248,8 +248,9 @@ keeping n P = record {
   writes = λ A f x n e s p r w g k o u. kept-before (g k o u);
   asks = λ A f x n kind s p k e g h o u. kept-ask p kind s k e h o (λ a b q l o. g a b q l h o u);
   asksAbout = λ A f x n kind who s p k e g h o u. kept-about p kind who s k e h o (λ a b q l o. g a b q h o u);
-  asksText = λ A f n s p k g h o u. kept-ask p 12 s k refl h o (λ a b q l o. g a b q l h o l);
+  asksText = λ A f n s p k e g h o u. kept-ask p 12 s k refl h o (λ a b q l o. g a b q l h o l);
   parts = λ content proposer n s p e h o u. kept-parts content proposer s p h o;
+  spares = λ A n left all s p r e g. g;
   goesOn = λ A B f g h s p r k l m i o u. kept-onward r k (l i o u) (λ a t q i o v. m a t q i o v);
 }
 

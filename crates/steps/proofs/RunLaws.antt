@@ -1,12 +1,8 @@
--- Laws of runs that change nothing, have two parts, or are a part of another. Assumes nothing.
-use Prim.Native.Nat.{ℕ}
+-- Laws of runs that have two parts, or are a part of another. Assumes nothing.
 use mathlib.Core.Path.{_≡_, refl, ap}
 use mathlib.Core.List.{append-assoc}
-use mathlib.Core.Bool.{Bool, true, false, cond}
-use Rattle.steps.specs.declared.reader.Answer.{Answer}
-use Rattle.steps.specs.declared.reader.Answer.the-variants.{Got, Refused}
-use Rattle.steps.specs.Answers.{Tape, Asked}
-use Rattle.steps.specs.Runs.{Verdict, going, refused, failed, Run, before, onwardAs, onward, heardAs, heard, inside, Left, leaves}
+use Rattle.steps.specs.Answers.{Tape}
+use Rattle.steps.specs.Runs.{Verdict, going, refused, failed, Run, before, onwardAs, onward, inside, Left, leaves}
 use Rattle.steps.specs.Steps.{Out}
 
 -- TWO PARTS, and a part
@@ -28,16 +24,6 @@ onward-assoc {S} {A} {B} {C} r k m = go (r .verdict)
     go refused = refl
     go (failed c) = refl
 
--- what follows an answer goes on after it
-pub onward-heard : {S A B : Type 0} (q : Asked) (s : S) (f : ℕ → ℕ → Tape → Run S A) (k : A → S → Tape → Run S B)
-    → onward (heard q s f) k ≡ heard q s (λ a b u. onward (f a b u) k)
-unfolding heard heardAs onward onwardAs
-onward-heard {A = A} {B = B} q s f k = go (q .answer)
-  where
-    go : (x : Answer) → onward (heardAs x s (q .tape) f) k ≡ heardAs x s (q .tape) (λ a b u. onward (f a b u) k)
-    go (Got a b) = refl
-    go Refused = refl
-
 pub onward-inside : {S T A B : Type 0} (put : T → S) (r : Run T A) (k : A → T → Tape → Run T B) (m : A → S → Tape → Run S B)
     → ((a : A) → inside put (k a (r .state) (r .tape)) ≡ m a (put (r .state)) (r .tape)) → inside put (onward r k) ≡ onward (inside put r) m
 unfolding onward onwardAs
@@ -54,26 +40,3 @@ placed put d = record { state = put (d .state); verdict = d .verdict; tape = d .
 
 pub leaves-inside : {S T A : Type 0} (put : T → S) (d : Left T A) (o : Out) (r : Run T A) → d ≡ leaves o r → placed put d ≡ leaves o (inside put r)
 leaves-inside put d o r e = rw e
-
--- A RUN THAT CHANGES NOTHING
-module _ {S A : Type 0} (s : S) where
-  pub same-heard : (q : Asked) (k : ℕ → ℕ → Tape → Run S A) → ((a b : ℕ) (p : Tape) → k a b p .state ≡ s) → heard q s k .state ≡ s
-  unfolding heard heardAs
-  same-heard q k f = go (q .answer)
-    where
-      go : (x : Answer) → heardAs x s (q .tape) k .state ≡ s
-      go (Got a b) = f a b (q .tape)
-      go Refused = refl
-
-  pub same-cond : (t : Bool) (x y : Run S A) → x .state ≡ s → y .state ≡ s → cond t x y .state ≡ s
-  same-cond true x y h k = h
-  same-cond false x y h k = k
-
-pub same-onward : {S A B : Type 0} (s : S) (r : Run S A) (k : A → S → Tape → Run S B) → r .state ≡ s → ((a : A) (q : Tape) → k a s q .state ≡ s) → onward r k .state ≡ s
-unfolding onward onwardAs
-same-onward {A = A} s r k h f = go (r .verdict)
-  where
-    go : (v : Verdict A) → onwardAs v r k .state ≡ s
-    go (going a) = rw h (f a (r .tape))
-    go refused = h
-    go (failed c) = h

@@ -4,7 +4,7 @@ use Rattle.steps.specs.declared.reader.Answer.{Answer}
 use Rattle.steps.specs.declared.reader.Answer.the-variants.{Got, Refused}
 use Rattle.steps.specs.Answers.{Tape, Asked, ask, askAbout}
 use Rattle.steps.specs.Runs.{Verdict, going, refused, failed, Run, onwardAs, onward, heardAs, heard}
-use Rattle.steps.proofs.Logic.{anything, Logic}
+use Rattle.steps.proofs.Logic.{about, anything, Logic}
 
 module _ {S : Type 0} (P : S → Type 0) where
   pub keeps-heard : {A : Type 0} (q : Asked) (s : S) (k : ℕ → ℕ → Tape → Run S A) → ((a b : ℕ) (p : Tape) → P (k a b p .state)) → P s → P (heard q s k .state)
@@ -25,8 +25,8 @@ module _ {S : Type 0} (P : S → Type 0) where
       go (failed e) = h
 
   -- as a logic of runs
-  abbrev pub holding : Logic anything S
-  holding = record {
+  abbrev pub holding : (index : ℕ → Type 0) → Logic (about index) S
+  holding index = record {
     Good = λ A f h s p r. P s → P (r .state);
     Step = λ x s y t. P s → P t;
     steps = λ A f x y n s t p r e g h. g (e h);
@@ -35,7 +35,12 @@ module _ {S : Type 0} (P : S → Type 0) where
     writes = λ A f x n e s p r w g. g;
     asks = λ A f x n kind s p k e g h. keeps-heard (ask p kind) s k (λ a b q. g a b q tt h) h;
     asksAbout = λ A f x n kind who s p k e g h. keeps-heard (askAbout p kind who) s k (λ a b q. g a b q h) h;
-    asksText = λ A f n s p k g h. keeps-heard (ask p 12) s k (λ a b q. g a b q tt h) h;
+    asksText = λ A f n s p k e g h. keeps-heard (ask p 12) s k (λ a b q. g a b q tt h) h;
     parts = λ content proposer n s p e h. h;
+    spares = λ A n left all s p r e g. g;
     goesOn = λ A B f g h s p r k l m i. keeps-onward r k (l i) (λ a t q. m a t q);
   }
+
+-- of a state of which nothing is said
+abbrev pub still : {S : Type 0} → Logic anything S
+still = holding (λ s. Unit {0}) (λ i. Unit {0})

@@ -4,10 +4,9 @@ use native.Mathlib.Omega.{arith}
 use mathlib.Core.Path.{_≡_, refl, sym, ap, _∙_}
 use mathlib.Core.List.{List}
 use mathlib.Core.Bool.{Bool, true, false}
-use lib.Dec.{eqb}
-use Rattle.steps.specs.Answers.{Tape, askAbout}
+use Rattle.steps.specs.Answers.{Tape}
 use Rattle.steps.specs.Runs.{Verdict, going, refused, failed, Run, ends, before, onwardAs, onward, inside}
-use Rattle.epochwords.specs.Batch.{isRead, outputBatchIn, isReady, readAt, readFrom, outputBatch}
+use Rattle.epochwords.specs.Batch.{isReady, outputBatch}
 use Rattle.state.specs.State.{nodes, ahead, currentEpoch, epochWords, withEpoch, stateOk}
 use Rattle.work.specs.HoneyBadger.{updateEpoch, inEpoch, tryOutputBatches, skipToEpoch}
 use Rattle.work.specs.Work.{batchesFrom}
@@ -18,23 +17,14 @@ use Rattle.work.proofs.Updates.{update-shaped, update-current, update-k
 use Rattle.state.proofs.RangesState.{shaped}
 use Rattle.work.proofs.Clearing.{skip-update}
 use Rattle.subset.specs.Words.{recordLength}
-use Rattle.steps.proofs.RunLaws.{same-heard, same-cond, same-onward}
+use Rattle.steps.proofs.Logic.{anything}
+use Rattle.steps.proofs.States.{holding}
+use Rattle.epochwords.proofs.Walk.{batch-keeps}
 
 -- a batch changes no word of its epoch
-module _ (size : ℕ) where
-  same-read-at : (p readable : ℕ) (x : List ℕ) (t : Tape) → readAt size p readable x t .state ≡ x
-  unfolding readAt
-  same-read-at p readable x t =
-      same-cond x (isRead size x p) _ _ (same-heard x (askAbout t 13 p) _ (λ a b q. same-cond x (eqb a 0) _ _ refl refl)) refl
-
-  same-read : (m p readable : ℕ) (x : List ℕ) (t : Tape) → readFrom size m p readable x t .state ≡ x
-  unfolding readFrom
-  same-read zero p readable x t = refl
-  same-read (suc m) p readable x t = same-onward x _ _ (same-read-at p readable x t) (λ a q. same-read m (p + 1) a x q)
-
 pub same-batch : (n e : ℕ) (x : List ℕ) (t : Tape) → outputBatch n e x t .state ≡ x
-unfolding outputBatchIn
-same-batch n e x t = same-onward x _ _ (same-read (recordLength n) n 0 0 x t) (λ a q. refl)
+same-batch n e x t =
+    batch-keeps anything (holding (λ y. y ≡ x) (λ i. Unit {0})) (record { reads = tt; faults = λ p. tt; outputs = λ k a b e. tt }) (recordLength n) n e x t refl
 
 -- BATCHES. Each that goes out moves the run on by one epoch
 pub record Between (first last : ℕ) (r : Run ℕ (Unit {0})) : Type 0 where
