@@ -29,7 +29,7 @@ use Rattle.subset.specs.declared.subset.Passed.{Passed}
 use Rattle.subset.specs.Words.{decidedAt, isDecided, loadProposal, storeProposal}
 use Rattle.subset.specs.Proposal.{asksAgreement, asksBroadcast, handleAgreement, handleBroadcast}
 use Rattle.subset.specs.Subset.{countAccepted, allComplete, contributed, atProposal, broadcastAt, agreementAt, voteFrom, votes, tryOutput, propose, handleMessage}
-use Rattle.subset.specs.Outcomes.{verdict, left, outputOf, storedAs, passing, passed, passingVerdict, leftPassed, thenOutput}
+use Rattle.subset.specs.Outcomes.{verdict, left, outputOf, storedAs, passing, passed, passingVerdict, leftPassed, thenOutput, messageAt}
 use Rattle.subset.proofs.proposal_state.Outcome.{the-type as outcome-type}
 use Rattle.subset.proofs.subset.Passing.{the-type as passing-type}
 
@@ -160,12 +160,7 @@ module _ (net : NetworkInfo) (error : ℕ) where
     unfolding propose
     propose-on e = rw e
 
-    pub message-broadcast : (content : Content) (p : ℕ) → content ≡ Broadcast
-        → handleMessage net error content p w t ≡ onward (broadcastAt net error 4 p w t) (λ _ w t. tryOutput net error w t)
+    pub message-onward : (content : Content) (p : ℕ) → handleMessage net error content p w t ≡ onward (messageAt net error content p w t) (λ _ w t. tryOutput net error w t)
     unfolding handleMessage
-    message-broadcast content p e = rw e
-
-    pub message-agreement : (content : Content) (p : ℕ) → content ≡ Agreement
-        → handleMessage net error content p w t ≡ onward (agreementAt net error 5 p w t) (λ _ w t. tryOutput net error w t)
-    unfolding handleMessage
-    message-agreement content p e = rw e
+    message-onward Broadcast p = refl
+    message-onward Agreement p = refl
