@@ -30,10 +30,6 @@ use Rattle.decryption.specs.declared.Handled.{Handled}
 use Rattle.decryption.proofs.Checked.{the-type as checked-type}
 use Rattle.decryption.proofs.Outcome.{the-type as outcome-type}
 
--- how many of the two flags are not set
-abbrev pub unset : ThresholdDecrypt → ℕ
-unset td = cond (td .«had_input») 0 1 + cond (td .terminated) 0 1
-
 -- counting one sender more
 pub count-none : (i : ℕ) (s : List ℕ) → i < 16 → getD s i 0 ≡ 0 → countFrom (16 - i) i s ≡ countFrom (16 - (i + 1)) (i + 1) s
 unfolding countFrom
@@ -144,3 +140,6 @@ remove-done i td p h =
 pub hands : {r : Handled} {td : ThresholdDecrypt} {o : Outcome} {s : Step} {p : Tape} {w : List ℕ} → r ≡ handled td o s → left r p w ≡ leaves (out s w) (ends (verdict o) td p)
 unfolding putAll
 hands e = rw e
+
+pub hands-as : {r : Handled} {td : ThresholdDecrypt} {o : Outcome} {s : Step} {p : Tape} {w : List ℕ} → r ≡ handled td o s → left r p w ≡ left (handled td o s) p w
+hands-as e = rw e

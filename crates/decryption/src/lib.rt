@@ -7,9 +7,11 @@ ghost use Prim.Native.Nat.{ℕ, _<_};
 ghost use mathlib.Core.List.{List};
 ghost use Rattle.steps.specs.Network.{Network};
 ghost use Rattle.steps.specs.Answers.{tapeAt};
+ghost use Rattle.steps.specs.declared.step.Step.{Step};
 ghost use Rattle.steps.specs.Steps.{out};
 ghost use Rattle.steps.specs.Runs.{leaves};
-ghost use Rattle.decryption.specs.Outcomes.{leftSet, leftValid, leftChecked, left, handled};
+ghost use Rattle.decryption.specs.declared.ThresholdDecrypt.{ThresholdDecrypt};
+ghost use Rattle.decryption.specs.Outcomes.{leftSet, leftValid, leftChecked, left, handled, sendShare};
 ghost use Rattle.decryption.specs.Decrypt.{new, isSender, countShares, setCiphertext, isShareValid, removeInvalidShares, combine, startDecryption, tryOutput, storeShare, handleMessage};
 use steps::network_info::NetworkInfo;
 use steps::numbers::CIPHERTEXT_VERIFIES;
@@ -91,6 +93,22 @@ fn count(shares: [u64; 16]) -> usize
         i += 1;
     }
     n
+}
+
+// Asks for the plaintext. It changes no instance and writes no words, so that the equation is one for any of them.
+fn combine(answers: &[u64], place: &mut usize) -> Outcome
+    ensures { λ r. ⌜ ((td : ThresholdDecrypt) (s : Step) (w : List ℕ) → left (handled td r s) (tapeAt (now (answers .entry)) (now (place .exit))) w
+        ≡ leaves (out s w) (combine td (tapeAt (now (answers .entry)) (now (place .entry))))) ⌝ }
+{
+    match steps::reader::ask(answers, place, CONTRIBUTION_DECRYPTED) {
+        Answer::Got { a, b } => {
+            if a == 0 {
+                return Outcome::Decryption;
+            }
+            Outcome::Plaintext(b)
+        }
+        Answer::Refused => Outcome::Refused,
+    }
 }
 
 impl ThresholdDecrypt {
@@ -244,6 +262,30 @@ impl ThresholdDecrypt {
         if self.ciphertext == 0 {
             return self.handled(Outcome::Decryption, step);
         }
+        let sent = self.send_share(net, proposer, answers, place, step, words);
+        let outcome = sent.outcome;
+        let Outcome::Nothing = outcome else {
+            return sent;
+        };
+        let td = sent.td;
+        let done = sent.step;
+        td.try_output(net, proposer, answers, place, done, words)
+    }
+
+    // Removes invalid shares, and sends the own one, where the node has a key for it.
+    fn send_share(
+        self,
+        net: NetworkInfo,
+        proposer: u64,
+        answers: &[u64],
+        place: &mut usize,
+        step: Step,
+        words: &mut [u64],
+    ) -> Handled
+        requires { ⌜ Network net ⌝ }
+        ensures { λ r. ⌜ left r (tapeAt (now (answers .entry)) (now (place .exit))) (now (words .exit))
+            ≡ leaves (out step (now (words .entry))) (sendShare net proposer self (tapeAt (now (answers .entry)) (now (place .entry)))) ⌝ }
+    {
         let removed = self.remove_invalid_shares(answers, place, step, words);
         let mut td = removed.td;
         let done = removed.step;
@@ -253,14 +295,14 @@ impl ThresholdDecrypt {
         };
         td.had_input = true;
         if !(net.is_validator() & net.has_key) {
-            return td.try_output(net, proposer, answers, place, done, words);
+            return td.handled(Outcome::Nothing, done);
         }
         match steps::reader::ask(answers, place, OWN_DECRYPTION_SHARE) {
             Answer::Got { a: _, b } => {
                 let sent = done.message(words, SHARE_CONTENT, proposer, b);
                 let own = net.our_id;
                 td.shares[own] = b;
-                td.try_output(net, proposer, answers, place, sent, words)
+                td.handled(Outcome::Nothing, sent)
             }
             Answer::Refused => td.handled(Outcome::Refused, done),
         }
@@ -292,34 +334,20 @@ impl ThresholdDecrypt {
         }
         let mut td = self;
         td.terminated = true;
-        // Starting again would change nothing.
+        // Starting again would change nothing, and starting now would end where it tries to combine.
         if td.had_input {
-            return td.combine(answers, place, step);
+            let combined = combine(answers, place);
+            return td.handled(combined, step);
         }
-        let started = td.start_decryption(net, proposer, answers, place, step, words);
-        let outcome = started.outcome;
+        let sent = td.send_share(net, proposer, answers, place, step, words);
+        let outcome = sent.outcome;
         let Outcome::Nothing = outcome else {
-            return started;
+            return sent;
         };
-        let last = started.td;
-        let done = started.step;
-        last.combine(answers, place, done)
-    }
-
-    // Asks for the plaintext. It writes no words, so that the equation is one for any table.
-    fn combine(self, answers: &[u64], place: &mut usize, step: Step) -> Handled
-        ensures { λ r. ⌜ ((w : List ℕ) → left r (tapeAt (now (answers .entry)) (now (place .exit))) w
-            ≡ leaves (out step w) (combine self (tapeAt (now (answers .entry)) (now (place .entry))))) ⌝ }
-    {
-        match steps::reader::ask(answers, place, CONTRIBUTION_DECRYPTED) {
-            Answer::Got { a, b } => {
-                if a == 0 {
-                    return self.handled(Outcome::Decryption, step);
-                }
-                self.handled(Outcome::Plaintext(b), step)
-            }
-            Answer::Refused => self.handled(Outcome::Refused, step),
-        }
+        let last = sent.td;
+        let done = sent.step;
+        let combined = combine(answers, place);
+        last.handled(combined, done)
     }
 
     // Keeps a share. A second one of a sender overwrites the first, and nothing is combined.

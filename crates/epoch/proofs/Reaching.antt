@@ -1,10 +1,12 @@
 -- Calls of the subset, a proposal and a message: what the code leaves, case by case. Assumes nothing.
 use Prim.Native.Nat.{ℕ}
 use mathlib.Core.Path.{_≡_, refl, sym, ap, _∙_}
-use mathlib.Core.List.{List, []}
+use mathlib.Core.List.{List, [], _∷_}
 use mathlib.Core.Bool.{Bool, true, false}
 use lib.ListN.{getD}
 use borrow.Author.Tests.{eq-eqb, ne-eqb}
+use types.Run.{OneOf, miss}
+use denote.Enum.Declared.{tagOf}
 use Rattle.steps.specs.declared.network_info.NetworkInfo.{NetworkInfo}
 use Rattle.steps.specs.declared.reader.Answer.{Answer}
 use Rattle.steps.specs.declared.reader.Answer.the-variants.{Got, Refused as NoAnswer}
@@ -21,18 +23,28 @@ use Rattle.epochwords.specs.declared.SubsetHandlingStrategy.{SubsetHandlingStra
 use Rattle.epoch.specs.declared.epoch_state.Outcome.the-variants.{Refused, Failed}
 use Rattle.epochwords.specs.Words.{isComplete}
 use Rattle.epoch.specs.Epoch.{firstContributions, processSubset, handedUp, callSubset, propose}
-use Rattle.epoch.specs.Outcomes.{leftOf, upAs}
+use Rattle.epoch.specs.Outcomes.{leftOf, upAs, endsSubset}
+use Rattle.subset.proofs.subset.SubsetOutcome.{the-type as subset-type}
+
+-- the way of `is_done` that is taken for all but one
+pub not-ended : (x : SubsetOutcome) → OneOf (0 ∷ 2 ∷ 3 ∷ []) (tagOf subset-type x) → false ≡ endsSubset x
+not-ended Ongoing h = refl
+not-ended SubsetDone h = absurd (miss (0 ∷ 2 ∷ 3 ∷ []) 1 tt h)
+not-ended NotHandled h = refl
+not-ended (FailedHandling error) h = refl
 
 module _ (net : NetworkInfo) (strategy : SubsetHandlingStrategy) (encrypted : Bool) where
   -- WHAT A CALL OF THE SUBSET HANDED UP, by what it came to
   module _ (k : ℕ) (c : SubsetOutcome) (w : List ℕ) (t : Tape) where
-    pub up-ongoing : c ≡ Ongoing → upAs net strategy encrypted k (handledVerdict c) w t ≡ processSubset net strategy encrypted false w t
+    pub up-goes : OneOf (0 ∷ 1 ∷ []) (tagOf subset-type c) → upAs net strategy encrypted k (handledVerdict c) w t ≡ processSubset net strategy encrypted (endsSubset c) w t
     unfolding handedUp onward onwardAs
-    up-ongoing e = rw e
-
-    pub up-done : c ≡ SubsetDone → upAs net strategy encrypted k (handledVerdict c) w t ≡ processSubset net strategy encrypted true w t
-    unfolding handedUp onward onwardAs
-    up-done e = rw e
+    up-goes h = go c h
+      where
+        go : (x : SubsetOutcome) → OneOf (0 ∷ 1 ∷ []) (tagOf subset-type x) → upAs net strategy encrypted k (handledVerdict x) w t ≡ processSubset net strategy encrypted (endsSubset x) w t
+        go Ongoing h = refl
+        go SubsetDone h = refl
+        go NotHandled h = absurd (miss (0 ∷ 1 ∷ []) 2 tt h)
+        go (FailedHandling error) h = absurd (miss (0 ∷ 1 ∷ []) 3 tt h)
 
     module _ (after : List ℕ) (cut : after ≡ firstContributions (net .«num_nodes») k w) (o : Out) where
       pub up-refused : c ≡ NotHandled → leftOf after Refused t o ≡ leaves o (upAs net strategy encrypted k (handledVerdict c) w t)

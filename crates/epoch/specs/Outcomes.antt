@@ -1,7 +1,7 @@
 -- What each enum of an epoch stands for, and what its functions leave.
 use Prim.Native.Nat.{ℕ}
 use mathlib.Core.List.{List}
-use mathlib.Core.Bool.{Bool}
+use mathlib.Core.Bool.{Bool, true, false}
 use mathlib.Core.Option.{Option, none, some}
 use Rattle.steps.specs.declared.network_info.NetworkInfo.{NetworkInfo}
 use Rattle.steps.specs.Answers.{Tape}
@@ -9,6 +9,8 @@ use Rattle.steps.specs.declared.step.Step.{Step}
 use Rattle.steps.specs.Steps.{Out, out}
 use Rattle.steps.specs.Runs.{Verdict, going, refused, failed, Run, ends, onward, Left}
 use Rattle.decryption.specs.declared.ThresholdDecrypt.{ThresholdDecrypt}
+use Rattle.subset.specs.declared.subset.SubsetOutcome.{SubsetOutcome}
+use Rattle.subset.specs.declared.subset.SubsetOutcome.the-variants.{Ongoing, Done as SubsetDone, Refused as NotHandled, Failed as FailedHandling}
 use Rattle.epochwords.specs.declared.SubsetHandlingStrategy.{SubsetHandlingStrategy}
 use Rattle.epoch.specs.Epoch.{processSubset, handedUp}
 use Rattle.epoch.specs.declared.epoch_state.Outcome.{Outcome}
@@ -44,6 +46,13 @@ left epoch r p w = leftOf epoch (r .outcome) p (out (r .step) w)
 
 abbrev pub leftEntered : Entered → Tape → List ℕ → Left ThresholdDecrypt (Option ℕ)
 leftEntered r p w = record { state = r .td; verdict = calledVerdict (r .outcome); tape = p; out = out (r .step) w }
+
+-- whether a call of the subset has ended it
+abbrev pub endsSubset : SubsetOutcome → Bool
+endsSubset Ongoing = false
+endsSubset SubsetDone = true
+endsSubset NotHandled = false
+endsSubset (FailedHandling error) = false
 
 -- what follows a call of the subset that came to this, in an epoch that had k contributions before it
 abbrev pub upAs : NetworkInfo → SubsetHandlingStrategy → Bool → ℕ → Verdict Bool → List ℕ → Tape → Run (List ℕ) (Unit {0})

@@ -18,7 +18,7 @@ ghost use Rattle.steps.specs.Numbers.{inputSubset, handleSubsetMessage};
 ghost use Rattle.subset.specs.Subset.{propose as proposeSubset, handleMessage as handleSubset};
 ghost use Rattle.subset.specs.Outcomes.{handledVerdict};
 ghost use Rattle.epochwords.specs.declared.SubsetHandlingStrategy.{SubsetHandlingStrategy};
-ghost use Rattle.epoch.specs.Outcomes.{calledVerdict, leftOf, leftDone, left, leftEntered, upAs};
+ghost use Rattle.epoch.specs.Outcomes.{calledVerdict, leftOf, leftDone, left, leftEntered, upAs, endsSubset};
 ghost use Rattle.epochwords.specs.Words.{accept, loadDecryption};
 ghost use Rattle.epoch.specs.Epoch.{processDecryption, callEntry, inputCiphertext, sendDecryptionShare, handleDecryptionShare, unexpectedFrom, unexpectedShares, subsetComplete, proposalDropped, finishAt, finishFrom, firstContributions, handlesNow, handleContribution, handleFrom, handleContributions, processSubset, callSubset, propose, handleMessageContent, newEpoch};
 use crate::MessageContent;
@@ -597,6 +597,16 @@ fn process_subset(
     }
 }
 
+// Whether a call of the subset has ended it.
+fn is_done(outcome: SubsetOutcome) -> bool
+    ensures { λ r. ⌜ r ≡ endsSubset outcome ⌝ }
+{
+    match outcome {
+        SubsetOutcome::Done => true,
+        _ => false,
+    }
+}
+
 // Handles what a call of the subset handed up. A failed one hands up nothing: the contributions past the first `count` are lost with its step.
 fn hand_up(
     epoch: &mut [u64],
@@ -616,32 +626,6 @@ fn hand_up(
 {
     let n = net.num_nodes;
     match outcome {
-        SubsetOutcome::Ongoing => {
-            process_subset(
-                epoch,
-                net,
-                strategy,
-                encrypted,
-                false,
-                answers,
-                place,
-                step,
-                words,
-            )
-        }
-        SubsetOutcome::Done => {
-            process_subset(
-                epoch,
-                net,
-                strategy,
-                encrypted,
-                true,
-                answers,
-                place,
-                step,
-                words,
-            )
-        }
         SubsetOutcome::Refused => {
             first_contributions(epoch, n, count);
             Ran {
@@ -655,6 +639,20 @@ fn hand_up(
                 outcome: Outcome::Failed(error),
                 step,
             }
+        }
+        _ => {
+            let done = is_done(outcome);
+            process_subset(
+                epoch,
+                net,
+                strategy,
+                encrypted,
+                done,
+                answers,
+                place,
+                step,
+                words,
+            )
         }
     }
 }

@@ -1,7 +1,7 @@
 -- What a call of the subset leaves, from what its parts left. Assumes nothing.
 use Prim.Native.Nat.{ℕ, suc, _+_, _-_, _≤_, _<_}
 use native.Mathlib.Omega.{arith}
-use mathlib.Core.Path.{_≡_, refl, ap, _∙_}
+use mathlib.Core.Path.{_≡_, refl, ap}
 use mathlib.Core.List.{List, [], _∷_}
 use mathlib.Core.Bool.{Bool, true, false, cond, _||_}
 use mathlib.Core.Option.{Option, none, some}
@@ -30,7 +30,7 @@ use Rattle.subset.specs.Words.{decidedAt, isDecided, loadProposal, store
 use Rattle.proposal.specs.Proposal.{asksAgreement, asksBroadcast, handleAgreement, handleBroadcast}
 use Rattle.subset.specs.Subset.{countAccepted, allComplete, contributed, atProposal, broadcastAt, agreementAt, voteFrom, votes, tryOutput, propose, handleMessage}
 use Rattle.proposal.specs.Outcomes.{verdict, left}
-use Rattle.subset.specs.Outcomes.{outputOf, storedAs, passing, passed, passingVerdict, leftPassed, thenOutput}
+use Rattle.subset.specs.Outcomes.{outputOf, storedAs, passing, passed, passingVerdict, leftPassed, thenOutput, messageAt}
 use Rattle.proposal.proofs.proposal_state.Outcome.{the-type as outcome-type}
 use Rattle.subset.proofs.subset.Passing.{the-type as passing-type}
 
@@ -161,12 +161,7 @@ module _ (net : NetworkInfo) (error : ℕ) where
     unfolding propose
     propose-on e = rw e
 
-    pub message-broadcast : (content : Content) (p : ℕ) → content ≡ Broadcast
-        → handleMessage net error content p w t ≡ onward (broadcastAt net error 4 p w t) (λ _ w t. tryOutput net error w t)
+    pub message-onward : (content : Content) (p : ℕ) → handleMessage net error content p w t ≡ onward (messageAt net error content p w t) (λ _ w t. tryOutput net error w t)
     unfolding handleMessage
-    message-broadcast content p e = rw e
-
-    pub message-agreement : (content : Content) (p : ℕ) → content ≡ Agreement
-        → handleMessage net error content p w t ≡ onward (agreementAt net error 5 p w t) (λ _ w t. tryOutput net error w t)
-    unfolding handleMessage
-    message-agreement content p e = rw e
+    message-onward Broadcast p = refl
+    message-onward Agreement p = refl

@@ -6,7 +6,11 @@ use mathlib.Core.Bool.{Bool, true, false}
 use mathlib.Core.Option.{Option, none, some}
 use lib.ListN.{length}
 use Rattle.steps.specs.declared.network_info.NetworkInfo.{NetworkInfo}
+use Rattle.steps.specs.Numbers.{broadcastMessage, agreementMessage}
 use Rattle.steps.specs.Answers.{Tape}
+use Rattle.steps.specs.declared.reader.Content.{Content}
+use Rattle.steps.specs.declared.reader.Content.the-variants.{Broadcast, Agreement}
+use Rattle.steps.specs.declared.reader.Output.{Output}
 use Rattle.steps.specs.Steps.{out}
 use Rattle.steps.specs.Runs.{Verdict, going, refused, failed, Run, ends, Left}
 use Rattle.proposal.specs.declared.proposal_state.Outcome.{Outcome}
@@ -19,7 +23,7 @@ use Rattle.subset.specs.declared.subset.SubsetOutcome.{SubsetOutcome}
 use Rattle.subset.specs.declared.subset.SubsetOutcome.the-variants.{Ongoing, Done, Refused as NotHandled, Failed as FailedHandling}
 use Rattle.subset.specs.declared.subset.Handled.{Handled}
 use Rattle.subset.specs.Words.{epochLength, storeProposal}
-use Rattle.subset.specs.Subset.{contributed, tryOutput}
+use Rattle.subset.specs.Subset.{contributed, tryOutput, broadcastAt, agreementAt}
 
 -- the words of an epoch of n proposers
 pub record EpochWords (n : ℕ) (w : List ℕ) : Type 0 where
@@ -68,3 +72,8 @@ abbrev pub thenOutput : NetworkInfo → ℕ → Passing → List ℕ → Tape �
 thenOutput net error Passes w tape = tryOutput net error w tape
 thenOutput net error NotPassed w tape = ends refused w tape
 thenOutput net error (FailedPassing n) w tape = ends (failed n) w tape
+
+-- a message is asked about by its content
+abbrev pub messageAt : NetworkInfo → ℕ → Content → ℕ → List ℕ → Tape → Run (List ℕ) (Unit {0})
+messageAt net error Broadcast p w tape = broadcastAt net error broadcastMessage p w tape
+messageAt net error Agreement p w tape = agreementAt net error agreementMessage p w tape

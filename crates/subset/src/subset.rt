@@ -6,7 +6,7 @@ ghost use Rattle.steps.specs.Answers.{tapeAt};
 ghost use Rattle.steps.specs.Steps.{out};
 ghost use Rattle.steps.specs.Runs.{leaves};
 ghost use Rattle.subset.specs.Subset.{receivedProposals, countAccepted, allComplete, broadcastAt, agreementAt, voteFalse, voteFrom, votes, tryOutput, propose, handleMessage};
-ghost use Rattle.subset.specs.Outcomes.{EpochWords, passed, storedAs, leftPassed, leftHandled, thenOutput};
+ghost use Rattle.subset.specs.Outcomes.{EpochWords, passed, storedAs, leftPassed, leftHandled, thenOutput, messageAt};
 use crate::words::ACCEPTED_TAGS;
 use crate::words::DECIDED_AT;
 use crate::words::INCOMPLETE_TAGS;
@@ -361,6 +361,34 @@ pub fn propose(
     then_output(epoch, net, error, outcome, answers, place, done, words)
 }
 
+// A message of the broadcast or of the agreement of proposer p.
+fn message_at(
+    epoch: &mut [u64],
+    net: NetworkInfo,
+    error: u64,
+    content: Content,
+    p: usize,
+    answers: &[u64],
+    place: &mut usize,
+    step: Step,
+    words: &mut [u64],
+) -> Passed
+    requires { ⌜ EpochWords (net .«num_nodes») (now epoch) × (p < net .«num_nodes») ⌝ }
+    ensures { λ r. ⌜ leftPassed (now (epoch .exit)) r (tapeAt (now (answers .entry)) (now (place .exit))) (now (words .exit))
+        ≡ leaves (out step (now (words .entry))) (messageAt net error content p (now (epoch .entry)) (tapeAt (now (answers .entry)) (now (place .entry)))) ⌝ }
+{
+    match content {
+        Content::Broadcast => {
+            let kind = BROADCAST_MESSAGE;
+            broadcast_at(epoch, net, error, kind, p, answers, place, step, words)
+        }
+        Content::Agreement => {
+            let kind = AGREEMENT_MESSAGE;
+            agreement_at(epoch, net, error, kind, p, answers, place, step, words)
+        }
+    }
+}
+
 // Handles a message of the broadcast or of the agreement of a proposer.
 pub fn handle_message(
     epoch: &mut [u64],
@@ -377,40 +405,18 @@ pub fn handle_message(
     ensures { λ r. ⌜ leftHandled (now (epoch .exit)) r (tapeAt (now (answers .entry)) (now (place .exit))) (now (words .exit))
         ≡ leaves (out step (now (words .entry))) (handleMessage net error content proposer (now (epoch .entry)) (tapeAt (now (answers .entry)) (now (place .entry)))) ⌝ }
 {
-    match content {
-        Content::Broadcast => {
-            let kind = BROADCAST_MESSAGE;
-            let passed = broadcast_at(
-                epoch,
-                net,
-                error,
-                kind,
-                proposer,
-                answers,
-                place,
-                step,
-                words,
-            );
-            let outcome = passed.outcome;
-            let done = passed.step;
-            then_output(epoch, net, error, outcome, answers, place, done, words)
-        }
-        Content::Agreement => {
-            let kind = AGREEMENT_MESSAGE;
-            let passed = agreement_at(
-                epoch,
-                net,
-                error,
-                kind,
-                proposer,
-                answers,
-                place,
-                step,
-                words,
-            );
-            let outcome = passed.outcome;
-            let done = passed.step;
-            then_output(epoch, net, error, outcome, answers, place, done, words)
-        }
-    }
+    let passed = message_at(
+        epoch,
+        net,
+        error,
+        content,
+        proposer,
+        answers,
+        place,
+        step,
+        words,
+    );
+    let outcome = passed.outcome;
+    let done = passed.step;
+    then_output(epoch, net, error, outcome, answers, place, done, words)
 }

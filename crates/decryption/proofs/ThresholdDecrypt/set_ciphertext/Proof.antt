@@ -8,31 +8,31 @@ use Rattle.decryption.proofs.ThresholdDecrypt.set_ciphertext.Reads as r
 use Rattle.decryption.proofs.ThresholdDecrypt.set_ciphertext.Lts as lts
 use Rattle.steps.proofs.reader.ask_about.Reads as ask-about-reads
 
--- src/lib.rt:129:13
+-- src/lib.rt:147:13
 returns : tie.Need-returns
 returns c = sym (set-twice _ _ _ _ (c .if1 .taken))
 
--- src/lib.rt:134:15
+-- src/lib.rt:152:15
 ask-about-requires : tie.Need-ask-about-requires
 ask-about-requires c κs = search needs
 
--- src/lib.rt:135:27
+-- src/lib.rt:153:27
 enum-known-a : tie.Need-enum-known-a
 enum-known-a c = search needs
 
--- src/lib.rt:137:21
+-- src/lib.rt:155:21
 returns-2 : tie.Need-returns-2
 returns-2 c = sym (set-invalid _ _ _ _ _ _ (c .before .before .before .before .ask-about .ensures) (c .before .before .before .before .before .before .if1 .left) _ _ (c .before .before .a .given .1) (c .if2 .taken))
 
--- src/lib.rt:151:26
+-- src/lib.rt:169:26
 enum-told : tie.Need-enum-told
 enum-told c = search needs
 
--- src/lib.rt:118:5
+-- src/lib.rt:136:5
 returns-3 : tie.Need-returns-3
 returns-3 c = sym (set-verified _ _ _ _ _ _ (c .before .before .before .before .ask-about .ensures) (c .before .before .before .before .before .before .if1 .left) _ _ (c .before .before .a .given .1) (c .if2 .left))
 
--- src/lib.rt:118:5
+-- src/lib.rt:136:5
 returns-4 : tie.Need-returns-4
 returns-4 c = sym (set-refused _ _ _ _ _ _ (c .before .before .ask-about .ensures) (c .before .before .before .before .if1 .left) (c .enum-told .given .1))
 
