@@ -22,9 +22,10 @@ sys.path.insert(0, str(ROOT / "tools"))
 import quick  # noqa: E402
 
 ORACLE = ROOT / "oracle" / "target" / "release" / "oracle"
-LAYERS = {"steps": "", "decryption": "steps", "subset": "steps", "epochwords": "decryption steps subset", "epoch": "decryption epochwords steps subset",
-          "state": "decryption epochwords steps subset", "work": "decryption epoch epochwords state steps subset",
-          "engine": "decryption epoch epochwords state steps subset work"}
+LAYERS = {"steps": "", "decryption": "steps", "proposal": "steps", "subset": "proposal steps", "epochwords": "decryption steps subset",
+          "epoch": "decryption epochwords proposal steps subset", "state": "decryption epochwords steps subset",
+          "work": "decryption epoch epochwords proposal state steps subset", "calls": "decryption epoch state steps subset work",
+          "engine": "calls decryption epoch state steps subset work"}
 
 JUDGE = """-- What a run of the original was given and what it made of it, and whether the definitions make the same of it.
 use Prim.Native.Nat.{ℕ, zero, suc, _+_, _*_}
@@ -34,7 +35,7 @@ use lib.ListN.{length, drop, set, replicate}
 use lib.Dec.{eqb, leb}
 use Rattle.state.specs.State.{stateLength}
 use Rattle.engine.specs.Create.{Numbers, createReply, createState}
-use Rattle.engine.specs.Calls.{After, proposeCall, messageCall, skipReply, skipState, currentEpochResult, hasInputResult, receivedProposalsResult, faultCountResult}
+use Rattle.calls.specs.Calls.{After, proposeCall, messageCall, skipReply, skipState, currentEpochResult, hasInputResult, receivedProposalsResult, faultCountResult}
 
 pub data Op : Type 0 where
   create : Numbers → Op
@@ -166,7 +167,7 @@ def make_repository(folder):
     (judged / "specs").mkdir()
     (judged / "specs" / "Judge.antt").write_text(JUDGE)
     (judged / "specs" / "Opened.antt").write_text(opened(unfoldable(folder / "crates"), "judged"))
-    lines = [f"{layer}: {below}\n" for layer, below in LAYERS.items()] + ["judged: decryption engine epoch epochwords state steps subset work\n"]
+    lines = [f"{layer}: {below}\n" for layer, below in LAYERS.items()] + ["judged: calls decryption engine epoch epochwords proposal state steps subset work\n"]
     (folder / "crates.txt").write_text("".join(lines))
 
 

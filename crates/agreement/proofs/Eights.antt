@@ -35,7 +35,7 @@ use Rattle.epoch.proofs.Laws.{epoch-laws}
 use Rattle.epoch.proofs.Eights.{eightsOf, Counted, proposed-counted, handled-counted}
 use Rattle.state.specs.State.{nodes, ahead, currentEpoch, inputAt, netOf, strategyOf, encryptedIn, epochWords, withEpoch}
 use Rattle.work.specs.HoneyBadger.{updateEpoch, epochStateMut, inEpoch, tryOutputBatches, outputBatches, propose, handleMessage}
-use Rattle.engine.specs.Calls.{contentOf, proposeCall, messageCall}
+use Rattle.calls.specs.Calls.{contentOf, proposeCall, messageCall}
 use Rattle.agreement.specs.History.{Call, turnOf, stateAfter, turns, noneFails, Event, eventsOf, currentAfter, history, taken, propose as proposing, message as messaging, skip as skipping}
 use Rattle.agreement.specs.Outputs.{timesAskedIn}
 use Rattle.agreement.proofs.Handout.{Tk}

@@ -27,7 +27,7 @@ use Rattle.epoch.specs.declared.MessageContent.the-variants.{Subset, Decryption
 use Rattle.epoch.proofs.Told.{fivesAmong, shareOf, EpochLaws}
 use Rattle.state.specs.State.{nodesAt, aheadAt, nodes, faulty, ahead, currentEpoch, faultCount, faultsAt, netOf, strategyOf, encryptedIn, epochWords, stateOk}
 use Rattle.work.specs.HoneyBadger.{skipToEpoch, propose, handleMessage}
-use Rattle.engine.specs.Calls.{countFaults, proposeCall, contentOk, contentOf, messageCall, skipReply, skipState}
+use Rattle.calls.specs.Calls.{countFaults, proposeCall, contentOk, contentOf, messageCall, skipReply, skipState}
 use Rattle.work.specs.Laws.{Skipped}
 use Rattle.steps.specs.Batches.{Batch, batchesOf, fivesOf}
 use Rattle.agreement.specs.History.{Call, turnOf, stateAfter, turns, noneFails, Event, event, eventsOf, currentAfter, history, taken, decrypted, propose as proposing, message as messaging, skip as skipping}

@@ -6,7 +6,7 @@ use mathlib.Core.Bool.{true}
 use mathlib.Core.Logic.{⊎-elim}
 use Rattle.state.specs.State.{stateOk}
 use Rattle.engine.specs.Create.{createReply, createState}
-use Rattle.engine.specs.Calls.{After}
+use Rattle.calls.specs.Calls.{After}
 use Rattle.agreement.specs.History.{Call, propose, message, skip, Turn, turnOf, stateAfter, turns, noneFails, Event, history}
 use Rattle.agreement.specs.Claim.{Sound, encryptedOf, Premises, Conclusions}
 use Rattle.agreement.specs.Rule.{stateAfterAll}

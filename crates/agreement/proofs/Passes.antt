@@ -14,11 +14,11 @@ use Rattle.steps.specs.Runs.{Verdict, going, refused, failed, numberOf, Run}
 use Rattle.steps.proofs.Laws.{and-true}
 use Rattle.state.specs.State.{nodes, currentEpoch, stateOk}
 use Rattle.work.specs.HoneyBadger.{propose, handleMessage}
-use Rattle.engine.specs.Calls.{After, zeroed, countFaults, isEnd, concludeAs, conclude, proposeAfter, proposeCall, contentOk, contentOf, messageCall, skipReply}
+use Rattle.calls.specs.Calls.{After, zeroed, countFaults, isEnd, concludeAs, conclude, proposeAfter, proposeCall, contentOk, contentOf, messageCall, skipReply}
 use Rattle.engine.specs.Laws.{isRefusal, oneOf, proposeFailures, proposeReplies, messageFailures, messageReplies}
 use Rattle.agreement.specs.History.{Call, turnOf, stateAfter, propose as proposing, message as messaging, skip as skipping}
 use Rattle.work.proofs.Fails.{Meant, only-propose, only-message}
-use Rattle.engine.proofs.CheckCases.{by-branch, by-propose, by-message}
+use Rattle.calls.proofs.CheckCases.{by-branch, by-propose, by-message}
 use Rattle.engine.proofs.Refusals.{propose-promised, message-promised, skip-refusal, skip-replies}
 
 -- a run that went on, whose chain was read to its end, and what the call left

@@ -26,10 +26,10 @@ use Rattle.epoch.proofs.Lists.{new-epoch-none, propose-keeps, content-keeps}
 use Rattle.epoch.proofs.Ranges.{ContentOk, new-epoch-ok, batch-safe, propose-safe, content-safe}
 use Rattle.state.specs.State.{nodes, ahead, currentEpoch, faultCount, inputAt, faultsAt, epochAt, netOf, strategyOf, encryptedIn, epochWords, withoutEpoch, stateOk}
 use Rattle.work.specs.HoneyBadger.{updateEpoch, epochStateMut, inEpoch, tryOutputBatches, propose, handleMessage, clearBelow, skipToEpoch}
-use Rattle.engine.specs.Calls.{After, countFaults, isEnd, concludeAs, proposeAfter, messageCall, contentOk, itemOk, contentOf, skipReply, skipState}
+use Rattle.calls.specs.Calls.{After, countFaults, isEnd, concludeAs, proposeAfter, messageCall, contentOk, itemOk, contentOf, skipReply, skipState}
 use Rattle.agreement.specs.History.{propose as proposing, message as messaging, skip as skipping, stateAfter}
 use Rattle.agreement.specs.Rule.{CallsInRange}
-use Rattle.engine.proofs.CheckCases.{by-branch, by-propose, by-message}
+use Rattle.calls.proofs.CheckCases.{by-branch, by-propose, by-message}
 use Rattle.work.proofs.Looping.{same-batch}
 use Rattle.state.proofs.RangesState.{StateOk, input-ok, epoch-ok, faults-ok, nodes-same, ahead-same, strategy-same, current-below, words-ok, with-ok, without-ok, state-wider, header-ok, enter, leave}
 

@@ -10,7 +10,7 @@ use Rattle.steps.specs.Table.{within}
 use Rattle.steps.specs.Answers.{Rec, tapeOf}
 use Rattle.steps.specs.Batches.{BatchEntry, Batch, batchesOf, fivesOf}
 use Rattle.steps.specs.Taken.{orElse, isThere, isTrue, firstTaken, ofValue, ofDecision, onesFrom, concernedAfter, firstDecrypted, thirteensIn}
-use Rattle.engine.specs.Calls.{proposeCall, messageCall, skipReply, skipState}
+use Rattle.calls.specs.Calls.{proposeCall, messageCall, skipReply, skipState}
 
 -- A CALL with "any answer, step and scratch words"
 pub data Call : Type 0 where

@@ -7,7 +7,7 @@ use mathlib.Core.List.{List, [], _∷_, List·Memᴰ}
 use mathlib.Core.Bool.{true}
 use Rattle.state.specs.State.{stateOk}
 use Rattle.engine.specs.Create.{Numbers, createReply, createState}
-use Rattle.engine.specs.Calls.{after, proposeCall, messageCall, skipReply, skipState}
+use Rattle.calls.specs.Calls.{after, proposeCall, messageCall, skipReply, skipState}
 use Rattle.agreement.specs.History.{Call, propose, message, skip, Turn, turns, noneFails, Event, history}
 use Rattle.agreement.specs.Claim.{Made, historyOf, encryptedOf, SameNetwork, Premises, Conclusions}
 use Rattle.agreement.specs.Rule.{stateAfterAll, endOf, PaperRule}

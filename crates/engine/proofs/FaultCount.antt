@@ -14,11 +14,11 @@ use Rattle.steps.specs.Steps.{Entry, faults}
 use Rattle.steps.specs.Runs.{Verdict, going, refused, failed, numberOf, Run}
 use Rattle.state.specs.State.{nodes, ahead, faultCount, faultsAt, stateOk}
 use Rattle.work.specs.HoneyBadger.{propose, handleMessage, skipToEpoch}
-use Rattle.engine.specs.Calls.{After, countFaults, isEnd, concludeAs, conclude, proposeAfter, contentOf, messageCall, skipReply, skipState}
+use Rattle.calls.specs.Calls.{After, countFaults, isEnd, concludeAs, conclude, proposeAfter, contentOf, messageCall, skipReply, skipState}
 use Rattle.state.proofs.Window.{Shaped, header-first}
 use Rattle.state.proofs.RangesState.{shaped}
 use Rattle.work.proofs.Skips.{skip-head}
-use Rattle.engine.proofs.CheckCases.{by-branch, by-propose, by-message}
+use Rattle.calls.proofs.CheckCases.{by-branch, by-propose, by-message}
 use Rattle.work.proofs.Works.{propose-counts, message-counts}
 
 -- a successful step's faults are added, up to the limit

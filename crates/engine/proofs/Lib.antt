@@ -1,10 +1,5 @@
 -- What is proved of the definitions, for this crate's proofs and for those above it.
-pub mod CheckCases
 pub mod Refusals
-pub mod Settled
-pub mod Checked
-pub mod WaysOfCalls
 pub mod Creating
 pub mod FaultCount
-pub mod CallEnds
 pub mod Received

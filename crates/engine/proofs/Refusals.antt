@@ -13,13 +13,12 @@ use Rattle.steps.specs.Answers.{tapeOf}
 use Rattle.steps.specs.Runs.{Verdict, going, refused, failed, numberOf, Run}
 use Rattle.state.specs.State.{nodes, currentEpoch, faultCount, scratchLength, scratchOf, stateLength, stateOk}
 use Rattle.work.specs.HoneyBadger.{skipToEpoch, hasInput, receivedProposals}
-use Rattle.engine.specs.Calls.{After, after, zeroed, isEnd, concludeAs, conclude, proposeAfter, proposeCall, messageCall, skipReply, skipState, queryReply, currentEpochResult, hasInputResult, receivedProposalsResult, faultCountResult}
+use Rattle.calls.specs.Calls.{After, after, zeroed, isEnd, concludeAs, conclude, proposeAfter, proposeCall, messageCall, skipReply, skipState, queryReply, currentEpochResult, hasInputResult, receivedProposalsResult, faultCountResult}
 use Rattle.engine.specs.Create.{Numbers, numbersOk, createReply, createState}
 use Rattle.engine.specs.Laws.{isRefusal, oneOf, proposeFailures, proposeReplies, messageFailures, messageReplies, Promised}
 use Rattle.state.proofs.Bools.{never}
 use Rattle.work.proofs.Fails.{Meant, Only, only-propose, only-message}
-use Rattle.engine.proofs.CheckCases.{by-branch, by-propose, by-message}
-use Rattle.state.proofs.RangesState.{shaped}
+use Rattle.calls.proofs.CheckCases.{by-branch, by-propose, by-message}
 
 -- numbers of a list
 more : (y : ℕ) (ys : List ℕ) (x : ℕ) → oneOf ys x ≡ true → oneOf (y ∷ ys) x ≡ true
@@ -144,10 +143,6 @@ message-promised state scratch answers step sender epoch content proposer item =
     far = (omega arith, (omega arith, (omega arith, (omega arith, tt))))
 
 -- SCRATCH: "the first state-length words of scratch are zero, the rest untouched"
-pub scratch-is : (state : List ℕ) → stateOk state ≡ true → scratchOf state ≡ length state
-unfolding scratchLength
-scratch-is state ok = sym (shaped state ok .long)
-
 module _ (state scratch : List ℕ) where
   pub zeroed-length : scratchOf state ≤ length scratch → length (zeroed state scratch) ≡ length scratch
   unfolding zeroed

@@ -6,7 +6,7 @@ use mathlib.Core.List.{List, [], _∷_, _++_}
 use mathlib.Core.Bool.{cond}
 use lib.ListN.{length, getD, set, replicate}
 use Rattle.steps.specs.Steps.{Item, item, chainWords, firstAt}
-use Rattle.engine.specs.Calls.{proposeCall, messageCall, skipReply, skipState, queryReply, currentEpochResult, hasInputResult, receivedProposalsResult, faultCountResult}
+use Rattle.calls.specs.Calls.{proposeCall, messageCall, skipReply, skipState, queryReply, currentEpochResult, hasInputResult, receivedProposalsResult, faultCountResult}
 use Rattle.engine.specs.Create.{Numbers, createReply, createState}
 use Rattle.state.specs.State.{encryptedIn}
 use Rattle.engine.specs.Opened.{opened}

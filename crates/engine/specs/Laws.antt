@@ -10,7 +10,7 @@ use Rattle.steps.specs.Numbers.{success, notAState, scratchTooShort, answersMal
 use Rattle.steps.specs.Table.{within}
 use Rattle.subset.specs.Words.{epochLength}
 use Rattle.state.specs.State.{headerLength, nodes, ahead, currentEpoch, input, scratchOf, epochAt, inputAt, epochWords}
-use Rattle.engine.specs.Calls.{After, zeroed}
+use Rattle.calls.specs.Calls.{After, zeroed}
 
 -- "1 to 12 turn a call down"
 abbrev pub isRefusal : ℕ → Bool

@@ -1,5 +1,3 @@
-pub mod Calls
-pub mod Checks
 pub mod Create
 pub mod Shape
 pub mod Laws

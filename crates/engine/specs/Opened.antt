@@ -1,14 +1,8 @@
 -- The definitions that a closed term computes with: a line `unfolding opened` opens them all.
-use Rattle.work.specs.Opened as WorkOpened
-use Rattle.engine.specs.Calls
-use Rattle.engine.specs.Checks
+use Rattle.calls.specs.Opened as CallsOpened
 use Rattle.engine.specs.Create
 
 unfoldable pub opened : Unit {0}
-unfolding WorkOpened.opened
-    Calls.zeroed Calls.countFaults Calls.isEnd Calls.concludeAs Calls.proposeAfter Calls.contentOk Calls.itemOk
-    Calls.contentOf Calls.messageCall Calls.skipReply Calls.skipState Calls.queryReply Calls.currentEpochResult
-    Calls.hasInputResult Calls.receivedProposalsResult Calls.faultCountResult
-    Checks.thenCheck Checks.firstChecks Checks.epochCheck Checks.messageCheck Checks.afterChecks
+unfolding CallsOpened.opened
     Create.numberTests Create.created Create.createReply Create.createState
 opened = tt

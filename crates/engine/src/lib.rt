@@ -1,24 +1,21 @@
 // The epoch engine, after honey_badger/honey_badger.rs: what a host calls, with numbers and slices of words (include/belkjund.h). No entry point
 // requires anything of what it is lent.
 ghost use mathlib.Core.Path.{_≡_};
-ghost use Rattle.engine.specs.Calls.{after, proposeCall, messageCall, skipReply, skipState, queryReply, currentEpochResult, hasInputResult, receivedProposalsResult, faultCountResult};
+ghost use Rattle.calls.specs.Calls.{after, proposeCall, messageCall, skipReply, skipState, queryReply, currentEpochResult, hasInputResult, receivedProposalsResult, faultCountResult};
 ghost use Rattle.engine.specs.Create.{numbers, createReply, createState};
 
-pub mod call;
-pub mod checks;
 pub mod create;
-pub mod operations;
 pub mod queries;
 
-use crate::checks::content_of;
-use crate::checks::leaves_scratch;
-use crate::checks::message_checks;
-use crate::checks::propose_checks;
 use crate::create::Numbers;
-use crate::operations::handle_message;
-use crate::operations::propose;
 use crate::queries::has_input;
 use crate::queries::received_proposals;
+use calls::checks::content_of;
+use calls::checks::leaves_scratch;
+use calls::checks::message_checks;
+use calls::checks::propose_checks;
+use calls::operations::handle_message;
+use calls::operations::propose;
 use state::range::scratch_length;
 use state::range::state_length;
 use state::range::state_ok;

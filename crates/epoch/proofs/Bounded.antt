@@ -9,7 +9,7 @@ use Rattle.steps.proofs.Logic.{anything}
 use Rattle.steps.proofs.Bounded.{bounded-wider, spends-bounded, counting}
 use Rattle.decryption.specs.declared.ThresholdDecrypt.{ThresholdDecrypt}
 use Rattle.decryption.proofs.Bounded.{rules as combines}
-use Rattle.subset.specs.declared.ProposalState.{ProposalState}
+use Rattle.proposal.specs.declared.ProposalState.{ProposalState}
 use Rattle.subset.specs.Words.{recordLength}
 use Rattle.subset.proofs.Bounded.{Writes, rules as subsets}
 use Rattle.epochwords.specs.declared.SubsetHandlingStrategy.{SubsetHandlingStrategy}

@@ -14,7 +14,7 @@ use Rattle.steps.specs.Runs.{going, ends}
 use Rattle.steps.specs.Taken.{orElse, isThere}
 use Rattle.subset.specs.Words.{epochLength, acceptedAt, countAt, recordAt, valueAt, arrivalAt, loadProposal}
 use Rattle.steps.proofs.After.{After, after-map, after-cond, after-onward, Reads, after-about}
-use Rattle.subset.proofs.Proposals.{outputOf}
+use Rattle.proposal.proofs.Proposals.{outputOf}
 use Rattle.subset.proofs.Held.{Held, isOut}
 use Rattle.subset.proofs.Taken.{put-same, put-other, more}
 use Rattle.epochwords.specs.declared.SubsetHandlingStrategy.{SubsetHandlingStrategy}

@@ -23,7 +23,7 @@ use Rattle.subset.specs.Words.{statusAt, decidedAt, acceptedAt, countAt, record
 use Rattle.subset.specs.Subset.{propose as proposeSubset, handleMessage as handleSubset}
 use Rattle.subset.specs.Rule.{isOver}
 use Rattle.steps.proofs.After.{After, after-map, after-cond, after-onward, after-inside, Reads, after-ask, after-about}
-use Rattle.subset.proofs.Proposals.{outputOf}
+use Rattle.proposal.proofs.Proposals.{outputOf}
 use Rattle.subset.proofs.Held.{Held}
 use Rattle.subset.proofs.Calls.{Called}
 use Rattle.epochwords.specs.declared.SubsetHandlingStrategy.{SubsetHandlingStrategy}

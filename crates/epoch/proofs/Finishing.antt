@@ -12,10 +12,10 @@ use borrow.Author.Tests.{eqb-true, eqb-false}
 use Rattle.steps.specs.declared.network_info.NetworkInfo.{NetworkInfo}
 use Rattle.steps.specs.Answers.{Tape}
 use Rattle.steps.specs.Runs.{going, ends, before}
-use Rattle.subset.specs.declared.ProposalState.the-variants.{Ongoing, HasValue, Accepted, Complete}
+use Rattle.proposal.specs.declared.ProposalState.the-variants.{Ongoing, HasValue, Accepted, Complete}
 use Rattle.subset.specs.Words.{epochLength, statusAt, decidedAt, acceptedAt, countAt, recordAt, proposalAt, valueAt, arrivalAt, proposalOf, loadProposal, dropFrom}
 use Rattle.steps.proofs.After.{After, after-map, after-onward}
-use Rattle.subset.proofs.Proposals.{stateOf, outputOf}
+use Rattle.proposal.proofs.Proposals.{stateOf, outputOf}
 use Rattle.subset.proofs.Counts.{countIf}
 use Rattle.subset.proofs.Frames.{apart, differ}
 use Rattle.subset.proofs.Held.{Held, isOut, isNew}

@@ -20,7 +20,7 @@ use Rattle.steps.proofs.Chains.{Bit}
 use Rattle.subset.specs.Words.{epochLength, statusAt, decidedAt, acceptedAt, countAt, recordAt}
 use Rattle.subset.specs.Rule.{settledFrom, isOver}
 use Rattle.steps.proofs.After.{After, after-map, after-onward, after-inside}
-use Rattle.subset.proofs.Proposals.{outputOf}
+use Rattle.proposal.proofs.Proposals.{outputOf}
 use Rattle.subset.proofs.Frames.{differ}
 use Rattle.subset.proofs.Held.{Held, isOut}
 use Rattle.subset.proofs.Taken.{cell, settled-cell}

@@ -14,7 +14,7 @@ use Rattle.steps.specs.declared.reader.Content.{Content}
 use Rattle.steps.specs.Answers.{Tape}
 use Rattle.steps.specs.Steps.{Out}
 use Rattle.steps.specs.Runs.{Left, leaves}
-use Rattle.subset.specs.declared.ProposalState.{ProposalState}
+use Rattle.proposal.specs.declared.ProposalState.{ProposalState}
 use Rattle.subset.specs.Words.{decidedAt, countAt, countOf, valueAt, arrivalAt, storeProposal, addContribution}
 use Rattle.subset.specs.Subset.{contributed, propose, handleMessage}
 use Rattle.steps.proofs.Logic.{about}

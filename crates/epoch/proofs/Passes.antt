@@ -21,7 +21,7 @@ use Rattle.steps.proofs.Past.{Past, Others}
 use Rattle.steps.proofs.Times.{past-more}
 use Rattle.decryption.specs.declared.ThresholdDecrypt.{ThresholdDecrypt}
 use Rattle.decryption.specs.Decrypt.{handleMessage as handleShare}
-use Rattle.subset.specs.declared.ProposalState.{ProposalState}
+use Rattle.proposal.specs.declared.ProposalState.{ProposalState}
 use Rattle.subset.specs.Words.{countOf, decidedAt, acceptedAt, statusAt, countAt, recordAt, proposalAt, valueAt, arrivalAt, storeProposal, addContribution}
 use Rattle.subset.specs.Subset.{contributed, propose as proposeSubset, handleMessage as handleSubset}
 use Rattle.subset.proofs.Frames.{differ, store-word}

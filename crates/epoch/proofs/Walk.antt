@@ -16,7 +16,7 @@ use Rattle.steps.proofs.States.{holding, still}
 use Rattle.decryption.specs.declared.ThresholdDecrypt.{ThresholdDecrypt}
 use Rattle.decryption.specs.Decrypt.{isSender, withCiphertext}
 use Rattle.decryption.proofs.Walk.{Does, plaintext, Combines, any-combines, by-valid, set-keeps, start-keeps, handle-keeps as share-keeps}
-use Rattle.subset.specs.declared.ProposalState.{ProposalState}
+use Rattle.proposal.specs.declared.ProposalState.{ProposalState}
 use Rattle.subset.specs.Words.{countOf, valueAt, contributor}
 use Rattle.subset.proofs.Walk.{Rules as Subsets, propose-keeps as propose-subset-keeps, handle-keeps as handle-subset-keeps}
 use Rattle.epochwords.specs.Words.{isComplete, isAccepted, accept, DecryptionState, missing, ongoing, complete, asks, decryptionAt, loadEntry, storeDecryption}

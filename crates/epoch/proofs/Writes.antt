@@ -11,7 +11,7 @@ use Rattle.steps.specs.declared.network_info.NetworkInfo.{NetworkInfo}
 use Rattle.steps.specs.Answers.{Tape}
 use Rattle.decryption.specs.declared.ThresholdDecrypt.{ThresholdDecrypt}
 use Rattle.decryption.specs.Decrypt.{new}
-use Rattle.subset.specs.declared.ProposalState.{ProposalState}
+use Rattle.proposal.specs.declared.ProposalState.{ProposalState}
 use Rattle.subset.specs.Words.{countOf, statusAt, decidedAt, acceptedAt, countAt, proposalAt, valueAt, arrivalAt, tagOf, valueOf, storeProposal, addContribution, dropFrom}
 use Rattle.subset.specs.Subset.{contributed}
 use Rattle.epochwords.specs.declared.SubsetHandlingStrategy.{SubsetHandlingStrategy}

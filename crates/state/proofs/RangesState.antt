@@ -1,6 +1,6 @@
 -- The range rule of the state, taken apart and put together again, and that what the engine writes keeps it. Assumes nothing.
 use Prim.Native.Nat.{ℕ, zero, suc, _+_, _*_, _-_, _%_, _≤_, _<_}
-use mathlib.Core.Path.{_≡_, refl, _∙_}
+use mathlib.Core.Path.{_≡_, refl, _∙_, sym}
 use mathlib.Core.List.{List}
 use mathlib.Core.Bool.{Bool, true, false, _&&_}
 use native.Mathlib.Omega.{arith}
@@ -17,7 +17,7 @@ use Rattle.subset.specs.Words.{epochLength, countAt, countOf}
 use Rattle.subset.proofs.Ranges.{limitAt, limit-some, EpochOk}
 use Rattle.epochwords.specs.Words.{mostKept, epochInRange}
 use Rattle.epochwords.proofs.RangesWords.{all-at, all-every, epoch-below, epoch-keeps, epoch-in}
-use Rattle.state.specs.State.{headerLength, profileAt, nodesAt, faultyAt, aheadAt, ownAt, keyAt, strategyAt, scheduleAt, firstNumberAt, secondNumberAt, epochAt, inputAt, faultsAt, vacantAt, epochsAt, stateLength, nodes, ahead, currentEpoch, input, faultCount, netOf, strategyOf, epochWords, withEpoch, withoutEpoch, allHold, headerTests, headerInRange, epochsInRange, stateOk}
+use Rattle.state.specs.State.{headerLength, profileAt, nodesAt, faultyAt, aheadAt, ownAt, keyAt, strategyAt, scheduleAt, firstNumberAt, secondNumberAt, epochAt, inputAt, faultsAt, vacantAt, epochsAt, stateLength, scratchLength, scratchOf, nodes, ahead, currentEpoch, input, faultCount, netOf, strategyOf, epochWords, withEpoch, withoutEpoch, allHold, headerTests, headerInRange, epochsInRange, stateOk}
 use Rattle.state.proofs.Bools.{test-holds}
 use Rattle.state.proofs.Window.{Shaped, header-first, words-are, words-long, with-head, with-shaped, with-place, with-other, set-shaped, set-words}
 
@@ -254,3 +254,8 @@ module _ (w : List ℕ) (ok : stateOk w ≡ true) where
   leave v h =
       ok-by v (header-left v h) (rw (h .shape .nodes, h .shape .ahead) (h .shape .long)) (λ e. rw (h .shape .nodes) (h .words e))
       (λ e. rw (h .shape .nodes, strategy-same w (lastEpoch + ahead w + 1) (header-ok w ok .some) v h) (h .lists e))
+
+-- scratch has the state's length
+pub scratch-is : (state : List ℕ) → stateOk state ≡ true → scratchOf state ≡ length state
+unfolding scratchLength
+scratch-is state ok = sym (shaped state ok .long)

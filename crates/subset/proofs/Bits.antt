@@ -11,10 +11,10 @@ use lib.Pow.{pow-pos, high, shr-shr, shr-lt}
 use lib.Count.{ones, ones-step, ones-cat}
 use borrow.Author.Tests.{eq-eqb, ne-eqb}
 use Rattle.steps.specs.Bits.{hasBit, countBits, bitsFrom}
-use Rattle.subset.specs.declared.ProposalState.{ProposalState}
-use Rattle.subset.specs.declared.ProposalState.the-variants.{Ongoing, HasValue, Accepted, Complete}
+use Rattle.proposal.specs.declared.ProposalState.{ProposalState}
+use Rattle.proposal.specs.declared.ProposalState.the-variants.{Ongoing, HasValue, Accepted, Complete}
 use Rattle.subset.specs.Words.{recordLength, tagOngoing, tagHasValue, tagAccepted, tagCompleteFalse, tagCompleteTrue, proposalOf, proposalTag, proposalIn, loadProposal}
-use Rattle.subset.specs.Proposal.{received, accepted, complete, asksAgreement}
+use Rattle.proposal.specs.Proposal.{received, accepted, complete, asksAgreement}
 use Rattle.subset.specs.Subset.{countFrom, completeFrom, receivedProposals, countAccepted, allComplete}
 use Rattle.subset.specs.Bits.{tagIn, acceptedTags, receivedTags, undecidedTags, incompleteTags, proposalsIn}
 use Rattle.subset.proofs.Counts.{countIf}

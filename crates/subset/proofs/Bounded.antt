@@ -7,7 +7,7 @@ use Rattle.steps.specs.Answers.{Tape}
 use Rattle.steps.specs.Runs.{Run}
 use Rattle.steps.proofs.Logic.{anything}
 use Rattle.steps.proofs.Bounded.{Bounded, spends-bounded, counting}
-use Rattle.subset.specs.declared.ProposalState.{ProposalState}
+use Rattle.proposal.specs.declared.ProposalState.{ProposalState}
 use Rattle.subset.specs.Subset.{propose, handleMessage}
 use Rattle.subset.proofs.Walk.{Rules, propose-keeps, handle-keeps}
 

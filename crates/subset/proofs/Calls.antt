@@ -19,13 +19,13 @@ use Rattle.steps.specs.Parts.{isPart}
 use Rattle.steps.specs.Taken.{orElse, isThere, firstTaken, ofValue, ofDecision, asked, onesFrom}
 use Rattle.steps.specs.Runs.{going, Run, ends, inside, onward}
 use Rattle.steps.proofs.Chains.{Good, Instance, bit-or, low-no-part, no-part, kind3, kind4, kind5, kind7}
-use Rattle.subset.specs.declared.ProposalState.{ProposalState}
+use Rattle.proposal.specs.declared.ProposalState.{ProposalState}
 use Rattle.subset.specs.Words.{decidedAt, countAt, proposalAt, valueAt, arrivalAt, loadProposal, storeProposal}
-use Rattle.subset.specs.Proposal.{asksAgreement, asksBroadcast, instanceAnswer, answerAgreement, answerBroadcast}
+use Rattle.proposal.specs.Proposal.{asksAgreement, asksBroadcast, instanceAnswer, answerAgreement, answerBroadcast}
 use Rattle.subset.specs.Subset.{allComplete, contributed, atProposal, broadcastAt, agreementAt, voteFrom, votes, tryOutput, propose, handleMessage}
 use Rattle.subset.specs.Rule.{settledFrom, isOver, SubsetCall, proposing, broadcasting, agreeing, callSubset, speaks}
 use Rattle.steps.proofs.After.{After, after-map, after-onward, after-inside}
-use Rattle.subset.proofs.Proposals.{stateOf, outputOf, instance-ok, Agreed, agreement-ok, Went, went-agreed, Broadcasts, broadcast-ok}
+use Rattle.proposal.proofs.Proposals.{stateOf, outputOf, instance-ok, Agreed, agreement-ok, Went, went-agreed, Broadcasts, broadcast-ok}
 use Rattle.subset.proofs.Held.{Held, held-move}
 use Rattle.subset.proofs.Taken.{put-same, put-other, more, grown-more, link-more, Linked, linked-same, linked-then, ones-grow, over-grows, over-decided, accepted-ones, complete-settled}
 use Rattle.subset.proofs.Votes.{and-no, and-yes, or-assoc, or-cases, or-no, Still, still-same, still-then, still-vote, untold-same, Opened, Voted, opened-none, opened-after, voted-still}

@@ -10,10 +10,10 @@ use lib.Dec.{eqb}
 use borrow.Author.Tests.{eqb-true, eqb-false}
 use Rattle.steps.specs.Taken.{isThere}
 use Rattle.steps.proofs.Chains.{Bit}
-use Rattle.subset.specs.declared.ProposalState.{ProposalState}
+use Rattle.proposal.specs.declared.ProposalState.{ProposalState}
 use Rattle.subset.specs.Words.{epochLength, decidedAt, countAt, proposalAt, valueAt, arrivalAt, proposalOf, tagOf, loadProposal, storeProposal, addContribution}
 use Rattle.subset.specs.Subset.{contributed}
-use Rattle.subset.proofs.Proposals.{stateOf, outputOf}
+use Rattle.proposal.proofs.Proposals.{stateOf, outputOf}
 use Rattle.subset.proofs.Counts.{countIf, count-le, count-same, count-add}
 use Rattle.subset.proofs.Frames.{apart, differ, store-size, store-word, store-tag, store-load, store-other, add-size, add-word, add-count, add-value, add-arrival}
 

@@ -2,7 +2,6 @@
 pub mod Counts
 pub mod Frames
 pub mod Walk
-pub mod Proposals
 pub mod Held
 pub mod Taken
 pub mod Calls
@@ -12,6 +11,5 @@ pub mod Ranges
 pub mod Votes
 pub mod Bounded
 pub mod Bits
-pub mod Moves
 pub mod Stores
 pub mod Rounds

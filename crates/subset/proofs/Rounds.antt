@@ -19,18 +19,19 @@ use Rattle.steps.specs.Steps.{Out, putAll}
 use Rattle.steps.specs.Runs.{going, refused, failed, Run, ends, onward, inside, Left, leaves}
 use Rattle.steps.proofs.Runs.{onward-go, onward-refused, onward-failed}
 use Rattle.steps.proofs.RunLaws.{placed, leaves-inside}
-use Rattle.subset.specs.declared.ProposalState.{ProposalState}
-use Rattle.subset.specs.declared.proposal_state.Outcome.{Outcome}
-use Rattle.subset.specs.declared.proposal_state.Outcome.the-variants.{Nothing, Value, Refused, Failed}
-use Rattle.subset.specs.declared.proposal_state.Transition.{Transition}
+use Rattle.proposal.specs.declared.ProposalState.{ProposalState}
+use Rattle.proposal.specs.declared.proposal_state.Outcome.{Outcome}
+use Rattle.proposal.specs.declared.proposal_state.Outcome.the-variants.{Nothing, Value, Refused, Failed}
+use Rattle.proposal.specs.declared.proposal_state.Transition.{Transition}
 use Rattle.subset.specs.declared.subset.Passing.{Passing}
 use Rattle.subset.specs.declared.subset.Passing.the-variants.{Done as Passes, Refused as NotPassed, Failed as FailedPassing}
 use Rattle.subset.specs.declared.subset.Passed.{Passed}
 use Rattle.subset.specs.Words.{decidedAt, isDecided, loadProposal, storeProposal}
-use Rattle.subset.specs.Proposal.{asksAgreement, asksBroadcast, handleAgreement, handleBroadcast}
+use Rattle.proposal.specs.Proposal.{asksAgreement, asksBroadcast, handleAgreement, handleBroadcast}
 use Rattle.subset.specs.Subset.{countAccepted, allComplete, contributed, atProposal, broadcastAt, agreementAt, voteFrom, votes, tryOutput, propose, handleMessage}
-use Rattle.subset.specs.Outcomes.{verdict, left, outputOf, storedAs, passing, passed, passingVerdict, leftPassed, thenOutput}
-use Rattle.subset.proofs.proposal_state.Outcome.{the-type as outcome-type}
+use Rattle.proposal.specs.Outcomes.{verdict, left}
+use Rattle.subset.specs.Outcomes.{outputOf, storedAs, passing, passed, passingVerdict, leftPassed, thenOutput}
+use Rattle.proposal.proofs.proposal_state.Outcome.{the-type as outcome-type}
 use Rattle.subset.proofs.subset.Passing.{the-type as passing-type}
 
 -- the ways of an `if let Outcome::Value(value) =` and of a `let Passing::Done = x else` that are not taken

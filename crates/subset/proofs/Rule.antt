@@ -21,7 +21,7 @@ use Rattle.steps.proofs.Chains.{orElse-none, orElse-assoc, Bit, table-good}
 use Rattle.subset.specs.Words.{newEpoch, epochLength, decidedAt, countAt, proposalAt, valueAt, arrivalAt, proposalOf, loadProposal}
 use Rattle.subset.specs.Rule.{settledFrom, isOver, SubsetEvent, answers, tablesOk, takenBy, callSubset, wordsAs, thenWords, wordsAfter, Contribution, contributionsFrom, contributions, speaks, SubsetRule}
 use Rattle.steps.proofs.After.{AfterAs}
-use Rattle.subset.proofs.Proposals.{outputOf}
+use Rattle.proposal.proofs.Proposals.{outputOf}
 use Rattle.subset.proofs.Counts.{countIf}
 use Rattle.subset.proofs.Held.{Held, isNew}
 use Rattle.subset.proofs.Calls.{Called, call-ok}

@@ -14,10 +14,10 @@ use Rattle.steps.specs.Taken.{orElse, isThere, isTrue, firstTaken, ofValue, ofD
 use Rattle.steps.proofs.Laws.{and-true}
 use Rattle.steps.proofs.Chains.{orElse-assoc, Bit}
 use Rattle.subset.specs.Words.{recordLength, loadProposal}
-use Rattle.subset.specs.Proposal.{accepted, complete}
+use Rattle.proposal.specs.Proposal.{accepted, complete}
 use Rattle.subset.specs.Subset.{countFrom, completeFrom}
 use Rattle.subset.specs.Rule.{settledFrom, isOver}
-use Rattle.subset.proofs.Proposals.{stateOf}
+use Rattle.proposal.proofs.Proposals.{stateOf}
 use Rattle.subset.proofs.Counts.{ones-if, count-rises}
 use Rattle.subset.proofs.Held.{Held}
 

@@ -10,10 +10,10 @@ use Rattle.steps.specs.declared.network_info.NetworkInfo.{NetworkInfo}
 use Rattle.steps.specs.Answers.{Tape, tapeOf}
 use Rattle.steps.specs.Steps.{Item, item, chainWords, firstAt}
 use Rattle.steps.specs.Runs.{Verdict, going, refused, failed, Run}
-use Rattle.subset.specs.declared.ProposalState.{ProposalState}
-use Rattle.subset.specs.declared.ProposalState.the-variants.{Ongoing, HasValue, Accepted, Complete}
+use Rattle.proposal.specs.declared.ProposalState.{ProposalState}
+use Rattle.proposal.specs.declared.ProposalState.the-variants.{Ongoing, HasValue, Accepted, Complete}
 use Rattle.subset.specs.Words.{newEpoch, countOf, valueAt, arrivalAt, loadProposal, storeProposal}
-use Rattle.subset.specs.Proposal.{handleAgreement, handleBroadcast}
+use Rattle.proposal.specs.Proposal.{handleAgreement, handleBroadcast}
 use Rattle.subset.specs.Subset.{receivedProposals, countAccepted, tryOutput, propose, handleMessage}
 use Rattle.subset.specs.Opened.{opened}
 

@@ -1,5 +1,4 @@
 pub mod Words
-pub mod Proposal
 pub mod Subset
 pub mod Bits
 pub mod Outcomes

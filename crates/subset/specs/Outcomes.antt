@@ -7,17 +7,11 @@ use mathlib.Core.Option.{Option, none, some}
 use lib.ListN.{length}
 use Rattle.steps.specs.declared.network_info.NetworkInfo.{NetworkInfo}
 use Rattle.steps.specs.Answers.{Tape}
-use Rattle.steps.specs.declared.step.Step.{Step}
-use Rattle.steps.specs.declared.reader.Output.{Output}
 use Rattle.steps.specs.Steps.{out}
 use Rattle.steps.specs.Runs.{Verdict, going, refused, failed, Run, ends, Left}
-use Rattle.subset.specs.declared.ProposalState.{ProposalState}
-use Rattle.subset.specs.declared.proposal_state.Told.{Told}
-use Rattle.subset.specs.declared.proposal_state.Told.the-variants.{Output as TheOutput, Refused as NotTold, Failed as FailedTold}
-use Rattle.subset.specs.declared.proposal_state.InstanceAnswer.{InstanceAnswer}
-use Rattle.subset.specs.declared.proposal_state.Outcome.{Outcome}
-use Rattle.subset.specs.declared.proposal_state.Outcome.the-variants.{Nothing, Value, Refused, Failed}
-use Rattle.subset.specs.declared.proposal_state.Transition.{Transition}
+use Rattle.proposal.specs.declared.proposal_state.Outcome.{Outcome}
+use Rattle.proposal.specs.declared.proposal_state.Outcome.the-variants.{Nothing, Value, Refused, Failed}
+use Rattle.proposal.specs.declared.proposal_state.Transition.{Transition}
 use Rattle.subset.specs.declared.subset.Passing.{Passing}
 use Rattle.subset.specs.declared.subset.Passing.the-variants.{Done as Passes, Refused as NotPassed, Failed as FailedPassing}
 use Rattle.subset.specs.declared.subset.Passed.{Passed}
@@ -25,43 +19,12 @@ use Rattle.subset.specs.declared.subset.SubsetOutcome.{SubsetOutcome}
 use Rattle.subset.specs.declared.subset.SubsetOutcome.the-variants.{Ongoing, Done, Refused as NotHandled, Failed as FailedHandling}
 use Rattle.subset.specs.declared.subset.Handled.{Handled}
 use Rattle.subset.specs.Words.{epochLength, storeProposal}
-use Rattle.subset.specs.Proposal.{Moved}
 use Rattle.subset.specs.Subset.{contributed, tryOutput}
 
 -- the words of an epoch of n proposers
 pub record EpochWords (n : ℕ) (w : List ℕ) : Type 0 where
   pub few : n ≤ 16
   pub long : length w ≡ epochLength n
-
--- A PROPOSAL. The instance's answer goes on with its last output; the proposal keeps its state meanwhile
-abbrev pub toldVerdict : Told → Verdict Output
-toldVerdict (TheOutput o) = going o
-toldVerdict NotTold = refused
-toldVerdict (FailedTold n) = failed n
-
-abbrev pub leftTold : ProposalState → InstanceAnswer → Tape → List ℕ → Left ProposalState Output
-leftTold s r p w = record { state = s; verdict = toldVerdict (r .outcome); tape = p; out = out (r .step) w }
-
--- no output, or the value that is output
-abbrev pub verdict : Outcome → Verdict (Option ℕ)
-verdict Nothing = going none
-verdict (Value v) = going (some v)
-verdict Refused = refused
-verdict (Failed n) = failed n
-
-abbrev pub left : Transition → Tape → List ℕ → Left ProposalState (Option ℕ)
-left r p w = record { state = r .state; verdict = verdict (r .outcome); tape = p; out = out (r .step) w }
-
--- the result with these parts
-abbrev pub transition : ProposalState → Outcome → Step → Transition
-transition s o step = record { state = s; outcome = o; step = step }
-
-abbrev pub outcomeOf : Option ℕ → Outcome
-outcomeOf none = Nothing
-outcomeOf (some v) = Value v
-
-abbrev pub transitionOf : Moved → Step → Transition
-transitionOf m step = transition (m .state) (outcomeOf (m .value)) step
 
 -- THE SUBSET. A proposal's step is stored, and its output handed up
 abbrev pub outputOf : Outcome → Option ℕ

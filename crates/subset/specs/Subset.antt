@@ -12,9 +12,9 @@ use Rattle.steps.specs.Numbers.{broadcastProposal, broadcastMessage, agreementM
 use Rattle.steps.specs.Network.{isValidator, numCorrect}
 use Rattle.steps.specs.Answers.{Tape}
 use Rattle.steps.specs.Runs.{going, Run, ends, onward, inside}
-use Rattle.subset.specs.declared.ProposalState.{ProposalState}
+use Rattle.proposal.specs.declared.ProposalState.{ProposalState}
 use Rattle.subset.specs.Words.{recordLength, decidedAt, isDecided, proposalIn, loadProposal, storeProposal, addContribution}
-use Rattle.subset.specs.Proposal.{received, accepted, complete, asksAgreement, asksBroadcast, answerAgreement, answerBroadcast}
+use Rattle.proposal.specs.Proposal.{received, accepted, complete, asksAgreement, asksBroadcast, answerAgreement, answerBroadcast}
 
 -- In words whose records have `size` words each
 module _ (size : ℕ) where

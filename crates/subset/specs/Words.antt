@@ -4,8 +4,8 @@ use mathlib.Core.List.{List}
 use mathlib.Core.Bool.{Bool, true, false, cond, not}
 use lib.ListN.{getD, set, replicate}
 use lib.Dec.{eqb, ltb}
-use Rattle.subset.specs.declared.ProposalState.{ProposalState}
-use Rattle.subset.specs.declared.ProposalState.the-variants.{Ongoing, HasValue, Accepted, Complete}
+use Rattle.proposal.specs.declared.ProposalState.{ProposalState}
+use Rattle.proposal.specs.declared.ProposalState.the-variants.{Ongoing, HasValue, Accepted, Complete}
 
 -- where the records begin, the length of a proposer's record, and of an epoch
 abbrev pub recordsAt : ℕ

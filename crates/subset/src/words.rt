@@ -6,7 +6,7 @@ ghost use lib.ListN.{length};
 ghost use Rattle.subset.specs.Words.{recordsAt, recordAt, proposalOf, tagOf, valueOf, loadProposal, storeProposal, addContribution};
 ghost use Rattle.subset.specs.Bits.{tagIn, proposalsIn};
 ghost use Rattle.subset.specs.Outcomes.{EpochWords};
-use crate::ProposalState;
+use proposal::ProposalState;
 
 // Where the records begin, and the length of a record besides its n shares.
 pub const RECORDS_AT: usize = 16;

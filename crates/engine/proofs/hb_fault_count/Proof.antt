@@ -5,7 +5,7 @@ use borrow.Author.Needs.{needs}
 use borrow.Author.Tests.{not-true, not-false}
 use Rattle.state.proofs.WordsCode.{header-inside}
 use Rattle.state.proofs.RangeCode.{ok-words}
-use Rattle.engine.specs.Calls.{queryReply, faultCountResult}
+use Rattle.calls.specs.Calls.{queryReply, faultCountResult}
 use Rattle.engine.proofs.hb_fault_count.Statement.{statement}
 use Rattle.engine.proofs.hb_fault_count.Tie as tie
 use Rattle.engine.proofs.hb_fault_count.Reads as reads

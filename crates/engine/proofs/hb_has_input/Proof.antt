@@ -4,7 +4,7 @@ use borrow.Author.Needs.{needs}
 use borrow.Author.Tests.{not-true, not-false}
 use Rattle.state.proofs.WordsCode.{header-inside}
 use Rattle.state.proofs.RangeCode.{ok-words}
-use Rattle.engine.specs.Calls.{queryReply, hasInputResult}
+use Rattle.calls.specs.Calls.{queryReply, hasInputResult}
 use Rattle.engine.proofs.hb_has_input.Statement.{statement}
 use Rattle.engine.proofs.hb_has_input.Tie as tie
 use Rattle.engine.proofs.hb_has_input.Reads as reads

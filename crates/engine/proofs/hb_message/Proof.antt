@@ -6,16 +6,16 @@ use lib.ListN.{length}
 use lib.Seq.{length-take-le}
 use Rattle.state.proofs.WordsCode.{header-inside}
 use Rattle.state.proofs.RangeCode.{ok-words}
-use Rattle.engine.specs.Checks.{leavesScratch}
-use Rattle.engine.proofs.Checked.{then-past, first-past, message-callable, message-checked, ends-first, ends-turned, ends-run, cleared, after-scratch, same-content}
+use Rattle.calls.specs.Checks.{leavesScratch}
+use Rattle.calls.proofs.Checked.{then-past, first-past, message-callable, message-checked, ends-first, ends-turned, ends-run, cleared, after-scratch, same-content}
 use Rattle.engine.proofs.hb_message.Statement.{statement}
 use Rattle.engine.proofs.hb_message.Tie as tie
 use Rattle.engine.proofs.hb_message.Reads as reads
 use Rattle.engine.proofs.hb_message.Lts as lts
-use Rattle.engine.proofs.checks.content_of.Reads as content-of-reads
-use Rattle.engine.proofs.checks.leaves_scratch.Reads as leaves-scratch-reads
-use Rattle.engine.proofs.checks.message_checks.Reads as message-checks-reads
-use Rattle.engine.proofs.operations.handle_message.Reads as handle-message-reads
+use Rattle.calls.proofs.checks.content_of.Reads as content-of-reads
+use Rattle.calls.proofs.checks.leaves_scratch.Reads as leaves-scratch-reads
+use Rattle.calls.proofs.checks.message_checks.Reads as message-checks-reads
+use Rattle.calls.proofs.operations.handle_message.Reads as handle-message-reads
 use Rattle.state.proofs.range.scratch_length.Reads as scratch-length-reads
 use Rattle.state.proofs.words.clear.Reads as clear-reads
 

@@ -6,15 +6,15 @@ use lib.ListN.{length}
 use lib.Seq.{length-take-le}
 use Rattle.state.proofs.WordsCode.{header-inside}
 use Rattle.state.proofs.RangeCode.{ok-words}
-use Rattle.engine.specs.Checks.{leavesScratch}
-use Rattle.engine.proofs.Checked.{then-past, first-past, propose-callable, propose-checked, ends-first, ends-turned, ends-run, cleared, after-scratch}
+use Rattle.calls.specs.Checks.{leavesScratch}
+use Rattle.calls.proofs.Checked.{then-past, first-past, propose-callable, propose-checked, ends-first, ends-turned, ends-run, cleared, after-scratch}
 use Rattle.engine.proofs.hb_propose.Statement.{statement}
 use Rattle.engine.proofs.hb_propose.Tie as tie
 use Rattle.engine.proofs.hb_propose.Reads as reads
 use Rattle.engine.proofs.hb_propose.Lts as lts
-use Rattle.engine.proofs.checks.leaves_scratch.Reads as leaves-scratch-reads
-use Rattle.engine.proofs.checks.propose_checks.Reads as propose-checks-reads
-use Rattle.engine.proofs.operations.propose.Reads as propose-reads
+use Rattle.calls.proofs.checks.leaves_scratch.Reads as leaves-scratch-reads
+use Rattle.calls.proofs.checks.propose_checks.Reads as propose-checks-reads
+use Rattle.calls.proofs.operations.propose.Reads as propose-reads
 use Rattle.state.proofs.range.scratch_length.Reads as scratch-length-reads
 use Rattle.state.proofs.words.clear.Reads as clear-reads
 

@@ -2,7 +2,7 @@
 use mathlib.Core.Path.{sym, _∙_}
 use borrow.Author.Needs.{needs}
 use borrow.Author.Tests.{not-true, not-false}
-use Rattle.engine.specs.Calls.{queryReply, receivedProposalsResult}
+use Rattle.calls.specs.Calls.{queryReply, receivedProposalsResult}
 use Rattle.engine.proofs.hb_received_proposals.Statement.{statement}
 use Rattle.engine.proofs.hb_received_proposals.Tie as tie
 use Rattle.engine.proofs.hb_received_proposals.Reads as reads

@@ -3,7 +3,7 @@ use mathlib.Core.Path.{sym, _∙_}
 use borrow.Author.Needs.{needs}
 use borrow.Author.Tests.{not-true, not-false, lt-ltb, le-ltb}
 use Rattle.state.proofs.RangeCode.{ok-words}
-use Rattle.engine.specs.Calls.{skipReply, skipState}
+use Rattle.calls.specs.Calls.{skipReply, skipState}
 use Rattle.engine.proofs.hb_skip.Statement.{statement}
 use Rattle.engine.proofs.hb_skip.Tie as tie
 use Rattle.engine.proofs.hb_skip.Reads as reads

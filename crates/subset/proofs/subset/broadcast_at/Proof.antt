@@ -9,8 +9,8 @@ use Rattle.subset.proofs.subset.broadcast_at.Statement.{statement}
 use Rattle.subset.proofs.subset.broadcast_at.Tie as tie
 use Rattle.subset.proofs.subset.broadcast_at.Reads as reads
 use Rattle.subset.proofs.subset.broadcast_at.Lts as lts
-use Rattle.subset.proofs.ProposalState.asks_broadcast.Reads as asks-broadcast-reads
-use Rattle.subset.proofs.ProposalState.handle_broadcast.Reads as handle-broadcast-reads
+use Rattle.proposal.proofs.ProposalState.asks_broadcast.Reads as asks-broadcast-reads
+use Rattle.proposal.proofs.ProposalState.handle_broadcast.Reads as handle-broadcast-reads
 use Rattle.subset.proofs.subset.pass.Reads as pass-reads
 use Rattle.subset.proofs.subset.store_transition.Reads as store-transition-reads
 use Rattle.subset.proofs.words.load_proposal.Reads as load-proposal-reads

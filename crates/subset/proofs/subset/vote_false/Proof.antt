@@ -9,8 +9,8 @@ use Rattle.subset.proofs.subset.vote_false.Statement.{statement}
 use Rattle.subset.proofs.subset.vote_false.Tie as tie
 use Rattle.subset.proofs.subset.vote_false.Reads as reads
 use Rattle.subset.proofs.subset.vote_false.Lts as lts
-use Rattle.subset.proofs.ProposalState.asks_agreement.Reads as asks-agreement-reads
-use Rattle.subset.proofs.ProposalState.vote_false.Reads as vote-false-reads
+use Rattle.proposal.proofs.ProposalState.asks_agreement.Reads as asks-agreement-reads
+use Rattle.proposal.proofs.ProposalState.vote_false.Reads as vote-false-reads
 use Rattle.subset.proofs.subset.pass.Reads as pass-reads
 use Rattle.subset.proofs.subset.store_transition.Reads as store-transition-reads
 use Rattle.subset.proofs.words.load_proposal.Reads as load-proposal-reads

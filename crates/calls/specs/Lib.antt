@@ -1,0 +1,4 @@
+pub mod Calls
+pub mod Checks
+pub mod Shape
+pub mod Opened
