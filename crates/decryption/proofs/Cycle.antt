@@ -14,14 +14,14 @@ use Rattle.steps.specs.declared.reader.Answer.the-variants.{Got, Refused as NoA
 use Rattle.steps.specs.Network.{Network, isValidator}
 use Rattle.steps.specs.Answers.{Tape, asked, ask}
 use Rattle.steps.specs.Steps.{Out, putEntry, putAll, message}
-use Rattle.steps.specs.Runs.{Verdict, going, refused, failed, ends, before, onwardAs, onward, heard, Left, leaves}
+use Rattle.steps.specs.Runs.{going, refused, failed, ends, before, onwardAs, onward, heard, Left, leaves}
 use Rattle.steps.proofs.Laws.{and-true}
+use Rattle.steps.proofs.After.{After, after-cond, after-onward, after-any, after-out, after-ask}
 use Rattle.steps.proofs.Logic.{anything}
 use Rattle.steps.proofs.States.{holding}
 use Rattle.steps.proofs.Runs.{onward-go, onward-refused, onward-stop, onward-at, onward-cong, heard-cong, heard-got, heard-none}
 use Rattle.decryption.specs.Decrypt.{withShares, withInput, withEnd, countShares, removeInvalidShares, ownShare, startWith, combine, tryWith, startDecryption, tryOutput}
 use Rattle.decryption.specs.declared.ThresholdDecrypt.{ThresholdDecrypt}
-use Rattle.decryption.proofs.Ends.{Ends, ends-cond, ends-heard, ends-onward}
 pub use Rattle.decryption.proofs.Walk.{Does}
 use Rattle.decryption.proofs.Walk.{remove-keeps}
 use Rattle.decryption.proofs.Laws.{unset}
@@ -42,19 +42,6 @@ pub own-below : (net : NetworkInfo) → Network net → (isValidator net && net 
 own-below net n e =
     let h : net .«our_id» < net .«num_nodes» = ltb-true _ _ (and-true _ _ e .0) in
     omega (arith, n .sixteen)
-
--- a run that goes on with no plaintext
-abbrev Quiet : ThresholdDecrypt → Verdict (Option ℕ) → Type 0
-Quiet td v = (h : ℕ) → v ≡ going (some h) → ⊥
-
-quiet-none : (h : ℕ) → _≡_ {A = Verdict (Option ℕ)} (going none) (going (some h)) → ⊥
-quiet-none h e = let z : _≡_ {A = ℕ} 0 1 = cc in omega arith
-
-quiet-refused : (h : ℕ) → _≡_ {A = Verdict (Option ℕ)} refused (going (some h)) → ⊥
-quiet-refused h e = let z : _≡_ {A = ℕ} 0 1 = cc in omega arith
-
-quiet-failed : (n h : ℕ) → _≡_ {A = Verdict (Option ℕ)} (failed n) (going (some h)) → ⊥
-quiet-failed n h e = let z : _≡_ {A = ℕ} 0 1 = cc in omega arith
 
 module _ (net : NetworkInfo) (proposer : ℕ) where
   own-cong : (f g : Does) (td : ThresholdDecrypt) (p : Tape) → ((s : List ℕ) (q : Tape) → f (withShares td s) q ≡ g (withShares td s) q) → ownShare net proposer f td p ≡ ownShare net proposer g td p
@@ -118,17 +105,23 @@ module _ (net : NetworkInfo) (proposer : ℕ) where
   unfolding onward onwardAs
   try-started td p e h z s = rw (try-onward td p e h z, start-redundant (withEnd td) p s)
 
-  own-quiet : (td : ThresholdDecrypt) (p : Tape) → Ends Quiet (ownShare net proposer (ends (going none)) td p)
+  own-quiet : (td : ThresholdDecrypt) (p : Tape) → After (ownShare net proposer (ends (going none)) td p) (λ o s q. o ≡ none)
   unfolding ownShare
-  own-quiet td p = ends-cond Quiet (isValidator net && net .«has_key») _ _ (ends-heard Quiet (ask p 11) td _ quiet-refused (λ a b q. quiet-none)) quiet-none
+  own-quiet td p = after-cond (isValidator net && net .«has_key») _ _ _ (after-ask p 11 td _ _ (λ a b q r. refl)) refl
 
   pub start-quiet : (td : ThresholdDecrypt) (p : Tape) (h : ℕ) → startDecryption net proposer (withEnd td) p .verdict ≡ going (some h) → ⊥
   unfolding startWith
-  start-quiet td p =
-      rw (← start-ended td p)
-      (ends-cond Quiet (td .«had_input») _ _ quiet-none
-      (ends-cond Quiet (eqb (td .ciphertext) 0) _ _ (quiet-failed 24)
-      (ends-onward Quiet (removeInvalidShares (withEnd td) p) _ (λ e. quiet-refused) (λ n e. quiet-failed n) (λ _ e. own-quiet _ _))))
+  start-quiet td p h e =
+      let m : startWith net proposer (ends (going none)) (withEnd td) p .verdict ≡ going (some h) = ap (λ r. r .verdict) (start-ended td p) ∙ e in
+      let z : _≡_ {A = Option ℕ} (some h) none = after-out (startWith net proposer (ends (going none)) (withEnd td) p) (λ o s q. o ≡ none) (some h) quiet m in
+      let y : _≡_ {A = ℕ} 0 1 = cc in
+      omega arith
+    where
+      quiet : After (startWith net proposer (ends (going none)) (withEnd td) p) (λ o s q. o ≡ none)
+      quiet =
+          after-cond (td .«had_input») _ _ _ refl
+          (after-cond (eqb (td .ciphertext) 0) _ _ _ tt
+          (after-onward (removeInvalidShares (withEnd td) p) _ _ (after-any (removeInvalidShares (withEnd td) p) _ (λ _ td q. own-quiet (withInput td) q))))
 
   -- what a function leaves, from what its calls left
   module _ (td : ThresholdDecrypt) (p : Tape) (o : Out) where
