@@ -11,28 +11,28 @@ use Rattle.steps.specs.declared.network_info.NetworkInfo.{NetworkInfo}
 use Rattle.steps.specs.declared.reader.Answer.the-variants.{Got}
 use Rattle.steps.specs.Answers.{Tape, asked, askAbout}
 use Rattle.steps.specs.Steps.{fault}
-use Rattle.steps.specs.Runs.{Verdict, going, failed, Run, ends, before, onward}
+use Rattle.steps.specs.Runs.{going, failed, Run, ends, before, onward}
 use Rattle.steps.proofs.Logic.{anything}
 use Rattle.steps.proofs.States.{holding}
 use Rattle.steps.proofs.Fails.{only-number, numbers, failing}
 use Rattle.decryption.specs.Decrypt.{withShares, withInput, withEnd, isSome, isSender, countShares, setCiphertext, removeInvalidShares, ownShare, combine, tryWith, startDecryption, tryOutput, storeShare, handleMessage}
 use Rattle.decryption.specs.declared.ThresholdDecrypt.{ThresholdDecrypt}
 use Rattle.decryption.specs.declared.Validity.the-variants.{Valid}
-use Rattle.decryption.proofs.Ends.{ends-cond, ends-heard}
+use Rattle.steps.proofs.After.{After, after-cond, after-out, after-about}
 use Rattle.decryption.proofs.Cycle.{cond-cong, start-redundant, start-onward, try-few, try-none}
 use Rattle.decryption.proofs.Walk.{Does, Checks, Combines, set-keeps as set-walk, remove-keeps as remove-walk, start-keeps as start-walk, try-keeps as try-walk, store-keeps as store-walk, handle-keeps as handle-walk}
 use Rattle.decryption.proofs.Messages.{store-first, store-again, handle-ended, handle-valid}
 use Rattle.decryption.proofs.Laws.{valid-early, valid-told}
 
 -- `CIPHERTEXTISNONE` CANNOT ARISE. Once the ciphertext is set the instance has it
-abbrev HasSet : ℕ → ThresholdDecrypt → Verdict Bool → Type 0
-HasSet c td v = v ≡ going true → td .ciphertext ≡ c
-
 pub set-has : (proposer c : ℕ) (td : ThresholdDecrypt) (p : Tape) → setCiphertext proposer c td p .verdict ≡ going true → setCiphertext proposer c td p .state .ciphertext ≡ c
 unfolding setCiphertext
-set-has proposer c td p =
-    ends-cond (HasSet c) (isSome (td .ciphertext)) _ _ (λ e. cc)
-    (ends-heard (HasSet c) (askAbout p 9 proposer) td _ (λ e. cc) (λ a b q. ends-cond (HasSet c) (eqb a 0) _ _ (λ e. cc) (λ e. refl)))
+set-has proposer c td p e = after-out (setCiphertext proposer c td p) _ true has e refl
+  where
+    has : After (setCiphertext proposer c td p) (λ x s q. x ≡ true → s .ciphertext ≡ c)
+    has =
+        after-cond (isSome (td .ciphertext)) _ _ _ tt
+        (after-about p 9 td _ _ proposer (λ a b q r. after-cond (eqb a 0) _ _ _ (λ z. absurd (false≢true z)) (λ z. refl)))
 
 -- which is one: 0 stands for none
 pub set-some : (proposer c : ℕ) (td : ThresholdDecrypt) (p : Tape) → (c ≡ 0 → ⊥) → setCiphertext proposer c td p .verdict ≡ going true → setCiphertext proposer c td p .state .ciphertext ≡ 0 → ⊥

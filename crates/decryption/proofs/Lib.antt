@@ -1,5 +1,4 @@
 -- What is proved of the definitions, for this crate's proofs and for those above it.
-pub mod Ends
 pub mod Laws
 pub mod Cycle
 pub mod Messages

@@ -22,7 +22,7 @@ use Rattle.steps.proofs.Times.{past-times}
 use Rattle.subset.specs.Words.{statusAt, decidedAt, acceptedAt, countAt, recordAt, proposalAt, valueAt, arrivalAt}
 use Rattle.subset.specs.Subset.{propose as proposeSubset, handleMessage as handleSubset}
 use Rattle.subset.specs.Rule.{isOver}
-use Rattle.steps.proofs.After.{After, after-map, after-cond, after-onward, after-inside, Reads, after-ask, after-about}
+use Rattle.steps.proofs.After.{After, after-map, after-cond, after-onward, after-inside, Reads, after-ask, after-about, after-with, after-both, after-any}
 use Rattle.proposal.proofs.Proposals.{outputOf}
 use Rattle.subset.proofs.Held.{Held}
 use Rattle.subset.proofs.Calls.{Called}
@@ -36,7 +36,7 @@ use Rattle.epoch.proofs.Walk.{Entries, Finishes, entry-keeps, share-mes
 use Rattle.epoch.specs.Epoch.{firstContributions, handlesNow, subsetComplete, proposalDropped, entryAfter, callEntry, inputCiphertext, sendDecryptionShare, handleDecryptionShare, finishFrom, handleContribution, handleFrom, handleContributions, processSubset, handedUp, callSubset, propose, handleMessageContent}
 use Rattle.epoch.proofs.Told.{shareOf, Told}
 use Rattle.epoch.proofs.Passes.{subsetKinds, subset-eight, entryKinds, entry-eight, outside-accepted, outside-record, Frame, inputs, input-runs}
-use Rattle.epoch.proofs.Texts.{reads-past, after-with, after-both, after-any}
+use Rattle.epoch.proofs.Texts.{reads-past}
 use Rattle.epochwords.proofs.Entries.{accepted-kept, store-low}
 use Rattle.epoch.proofs.Handled.{text-words, text-value, TextsOk}
 use Rattle.epoch.proofs.Contributions.{held-same, Contributed, contribution-ok, output-value}

@@ -27,7 +27,7 @@ use Rattle.decryption.specs.Decrypt.{handleMessage as handleShare}
 use Rattle.subset.specs.Words.{recordLength, epochLength, statusAt, decidedAt, acceptedAt, countAt, recordAt}
 use Rattle.subset.specs.Subset.{propose as proposeSubset, handleMessage as handleSubset}
 use Rattle.subset.specs.Rule.{isOver, settledFrom, proposing, broadcasting, agreeing, callSubset as callRule, speaks}
-use Rattle.steps.proofs.After.{After, after-map, after-cond, after-onward, after-ask}
+use Rattle.steps.proofs.After.{After, after-map, after-cond, after-onward, after-ask, after-with}
 use Rattle.subset.proofs.Calls.{Called, call-ok}
 use Rattle.subset.proofs.Votes.{untold-same, untold-past, Voted, voted-still, voted-done, voted-after, voted-before}
 use Rattle.subset.proofs.Rule.{new-over, new-word, new-held}
@@ -43,7 +43,7 @@ use Rattle.epochwords.specs.Batch.{decryptedFrom, isReadyIn, isRead, isReady}
 use Rattle.epoch.proofs.Told.{nothing, shareOf, Told, Ready, EpochLaws}
 use Rattle.epoch.proofs.Orderly.{Orderly}
 use Rattle.epoch.proofs.Passes.{subsetKinds, decryptionKinds, subset-eight, subset-twelve, subset-thirteen, decryption-value, decryption-decision, decryption-subset, decryption-thirteen, outside-status, outside-accepted, outside-record, Frame, propose-subset-runs, handle-subset-runs, quiet-proposed, quiet-handled}
-use Rattle.epoch.proofs.Texts.{reads-past, after-with}
+use Rattle.epoch.proofs.Texts.{reads-past}
 use Rattle.epochwords.proofs.Entries.{accepted-kept}
 use Rattle.epoch.proofs.Handled.{TextOk, text-words, text-value, opening-ran, Dealt, share-entry, TextsOk}
 use Rattle.epoch.proofs.Contributions.{same-stays, held-same}

@@ -3,17 +3,15 @@
 use Prim.Native.Nat.{ℕ, _-_, _≤_}
 use mathlib.Core.Path.{_≡_, refl, ap, _∙_}
 use mathlib.Core.List.{List}
-use mathlib.Core.Bool.{Bool, true, false, cond}
+use mathlib.Core.Bool.{Bool, true, false}
 use native.Mathlib.Omega.{arith}
 use lib.ListN.{replicate, length, getD, set, List·getD-eq-default}
 use lib.Seq.{getD-set-same, getD-set-other, set-out}
 use lib.Dec.{eqb, ltb}
 use borrow.Author.Tests.{ltb-true, ltb-false}
 use Rattle.steps.specs.declared.network_info.NetworkInfo.{NetworkInfo}
-use Rattle.steps.specs.declared.reader.Answer.{Answer}
-use Rattle.steps.specs.declared.reader.Answer.the-variants.{Got, Refused}
-use Rattle.steps.specs.Answers.{Tape, Asked, ask}
-use Rattle.steps.specs.Runs.{Verdict, going, refused, failed, Run, onwardAs, onward, heardAs, heard, inside}
+use Rattle.steps.specs.Answers.{Tape, ask}
+use Rattle.steps.specs.Runs.{Verdict, going, refused, failed, Run, onwardAs, onward, inside}
 use Rattle.steps.proofs.Ranges.{zeros-at}
 use Rattle.subset.specs.Words.{proposalAt, valueAt, epochLength, statusOngoing, newEpoch, statusAt, decidedAt, countAt, countOf, dropFrom}
 use Rattle.subset.proofs.Ranges.{limitAt, EpochOk}
@@ -24,7 +22,8 @@ use Rattle.epoch.specs.declared.MessageContent.the-variants.{Subset, Dec
 use Rattle.epochwords.specs.Words.{isComplete, DecryptionState, storeDecryption, mostKept}
 use Rattle.epoch.specs.Epoch.{firstContributions, handlesNow, subsetComplete, proposalDropped, finishFrom, handleContributions, processSubset, handedUp, callSubset, propose, handleMessageContent}
 use Rattle.epochwords.proofs.Entries.{store-low}
-use Rattle.steps.proofs.States.{still}
+use Rattle.steps.proofs.States.{keeps-heard, keeps-onward, still}
+use Rattle.steps.proofs.Logic.{either}
 use Rattle.decryption.proofs.Walk.{any-combines}
 use Rattle.epoch.proofs.Walk.{entries-hold, finishes-hold, share-message-keeps, finish-keeps}
 
@@ -37,29 +36,9 @@ pub new-epoch-none : (n : ℕ) → NoneKept (newEpoch n)
 unfolding newEpoch
 new-epoch-none n = getD-set-other (replicate (epochLength n) 0) statusAt countAt statusOngoing 0 (λ e. omega arith) ∙ zeros-at (epochLength n) countAt
 
--- a run that ends so, whatever its verdict
-module _ {A : Type 0} where
-  none-cond : (x : Bool) (r s : Run (List ℕ) A) → NoneKept (r .state) → NoneKept (s .state) → NoneKept (cond x r s .state)
-  none-cond true r s f g = f
-  none-cond false r s f g = g
-
-  none-heard : (q : Asked) (w : List ℕ) (k : ℕ → ℕ → Tape → Run (List ℕ) A) → NoneKept w → ((a b : ℕ) (u : Tape) → NoneKept (k a b u .state)) → NoneKept (heard q w k .state)
-  unfolding heard heardAs
-  none-heard q w k h f = go (q .answer)
-    where
-      go : (x : Answer) → NoneKept (heardAs x w (q .tape) k .state)
-      go (Got a b) = f a b (q .tape)
-      go Refused = h
-
-none-onward : {A B : Type 0} (r : Run (List ℕ) A) (k : A → List ℕ → Tape → Run (List ℕ) B)
-    → ((a : A) → r .verdict ≡ going a → NoneKept (k a (r .state) (r .tape) .state)) → (((a : A) → r .verdict ≡ going a → ⊥) → NoneKept (r .state)) → NoneKept (onward r k .state)
-unfolding onward onwardAs
-none-onward {A = A} r k f g = go (r .verdict) refl
-  where
-    go : (v : Verdict A) → r .verdict ≡ v → NoneKept (onwardAs v r k .state)
-    go (going a) e = f a e
-    go refused e = g (λ a h. let z : _≡_ {A = Verdict A} refused (going a) = cc in let y : _≡_ {A = ℕ} 0 1 = cc in omega arith)
-    go (failed n) e = g (λ a h. let z : _≡_ {A = Verdict A} (failed n) (going a) = cc in let y : _≡_ {A = ℕ} 0 1 = cc in omega arith)
+-- after a run, whatever its verdict
+abbrev NoneAfter : Run (List ℕ) (Unit {0}) → Type 0
+NoneAfter r = NoneKept (r .state)
 
 -- the list cut to nothing
 none-first : (n : ℕ) (w : List ℕ) → NoneKept (firstContributions n 0 w)
@@ -95,27 +74,25 @@ module _ (net : NetworkInfo) where
     subset-none : (done : Bool) (w : List ℕ) (u : Tape) → NoneKept (processSubset net Incremental encrypted done w u .state)
     unfolding processSubset handlesNow handleContributions
     subset-none done w u =
-        let k = none-first n _ in
-        none-onward (handleContributions net Incremental encrypted w u) _
-        (λ _ _. none-cond done _ _ (finish-none _ _ (done-none (handleContributions net Incremental encrypted w u .state) k)) k)
-        (λ _. k)
+        keeps-onward NoneKept (handleContributions net Incremental encrypted w u) _ (none-first n _) (λ _ w q k.
+        either NoneAfter done _ _ (λ _. finish-none _ q (done-none w k)) (λ _. k))
 
     call-none : (call : List ℕ → Tape → Run (List ℕ) Bool) (w : List ℕ) (u : Tape) → NoneKept w → NoneKept (callSubset net Incremental encrypted call w u .state)
-    unfolding callSubset handedUp
-    call-none call w u h = none-cond (isComplete w) _ _ h (go (call w u .verdict) refl)
+    unfolding callSubset handedUp onward onwardAs
+    call-none call w u h = either NoneAfter (isComplete w) _ _ (λ _. h) (λ _. go (call w u .verdict) refl)
       where
         cut : (r : Run (List ℕ) Bool) → NoneKept (firstContributions n (countOf w) (r .state))
         cut r = rw h (none-first n (r .state))
 
         go : (v : Verdict Bool) → call w u .verdict ≡ v → NoneKept (onward (handedUp net Incremental encrypted (countOf w) v (call w u)) (processSubset net Incremental encrypted) .state)
-        go (going done) e = none-onward (call w u) _ (λ d _. subset-none d _ _) (λ stops. absurd (stops done e))
-        go refused e = none-onward (inside (firstContributions n (countOf w)) (call w u)) _ (λ d _. subset-none d _ _) (λ _. cut (call w u))
-        go (failed error) e = none-onward (inside (firstContributions n (countOf w)) (call w u)) _ (λ d _. subset-none d _ _) (λ _. cut (call w u))
+        go (going done) e = rw e (subset-none done _ _)
+        go refused e = keeps-onward NoneKept (inside (firstContributions n (countOf w)) (call w u)) _ (cut (call w u)) (λ d w q _. subset-none d w q)
+        go (failed error) e = keeps-onward NoneKept (inside (firstContributions n (countOf w)) (call w u)) _ (cut (call w u)) (λ d w q _. subset-none d w q)
 
     -- THE EPOCH'S TWO CALLS
     pub propose-none : (w : List ℕ) (u : Tape) → NoneKept w → NoneKept (propose net Incremental encrypted w u .state)
     unfolding propose
-    propose-none w u h = none-heard (ask u 2) w _ h (λ a b z. none-cond (eqb a 0) _ _ h (call-none _ w z h))
+    propose-none w u h = keeps-heard NoneKept (ask u 2) w _ (λ a b z. either NoneAfter (eqb a 0) _ _ (λ _. h) (λ _. call-none _ w z h)) h
 
     pub content-none : (sender p : ℕ) (content : MessageContent) (w : List ℕ) (u : Tape) → NoneKept w → NoneKept (handleMessageContent net Incremental encrypted sender p content w u .state)
     unfolding handleMessageContent

@@ -9,8 +9,7 @@ use mathlib.Core.Option.{Option, none, some}
 use lib.Dec.{leb, eqb}
 use borrow.Author.Tests.{eqb-true, eqb-false, ne-eqb, leb-true}
 use Rattle.steps.specs.declared.network_info.NetworkInfo.{NetworkInfo}
-use Rattle.steps.specs.Answers.{Rec, Tape, tape}
-use Rattle.steps.specs.Runs.{Verdict, going, refused, failed, Run}
+use Rattle.steps.specs.Answers.{Rec, Tape}
 use Rattle.steps.specs.Taken.{orElse, concernedAfter, concerns, firstDecrypted}
 use Rattle.steps.proofs.Laws.{and-true}
 use Rattle.steps.proofs.Past.{Past, past-one}
@@ -20,36 +19,10 @@ use Rattle.steps.specs.Table.{within}
 use Rattle.steps.proofs.Logic.{Terms, Logic}
 use Rattle.decryption.proofs.Walk.{Does, handle-keeps as share-keeps}
 use Rattle.decryption.proofs.Errors.{handle-keeps, early-none}
-use Rattle.steps.proofs.After.{AfterAs, After, after-map, after-onward, Reads, after-ask, after-about}
+use Rattle.steps.proofs.After.{After, after-map, after-with, after-both, after-any, after-onward, Reads, after-ask, after-about}
 use Rattle.epoch.specs.Epoch.{inputCiphertext}
 use Rattle.epoch.proofs.Walk.{Inputs, input-keeps}
 use Rattle.epoch.proofs.Passes.{decryptionKinds, entry-past, share-runs, input-runs}
-
--- what holds of a run's state and answers, whatever its verdict
-pub after-with : {S A : Type 0} (r : Run S A) (Q : A → S → Tape → Type 0) (T : S → Tape → Type 0) → T (r .state) (r .tape) → After r Q → After r (λ a s z. Q a s z × T s z)
-after-with {A = A} r Q T t h = go (r .verdict) h
-  where
-    go : (v : Verdict A) → AfterAs v (r .state) (r .tape) Q → AfterAs v (r .state) (r .tape) (λ a s z. Q a s z × T s z)
-    go (going a) h = (h, t)
-    go refused h = tt
-    go (failed n) h = tt
-
-module _ {S A : Type 0} (r : Run S A) where
-  pub after-both : (P Q : A → S → Tape → Type 0) → After r P → After r Q → After r (λ a s z. P a s z × Q a s z)
-  after-both P Q f g = go (r .verdict) f g
-    where
-      go : (v : Verdict A) → AfterAs v (r .state) (r .tape) P → AfterAs v (r .state) (r .tape) Q → AfterAs v (r .state) (r .tape) (λ a s z. P a s z × Q a s z)
-      go (going a) f g = (f, g)
-      go refused f g = tt
-      go (failed n) f g = tt
-
-  pub after-any : (Q : A → S → Tape → Type 0) → ((a : A) (s : S) (z : Tape) → Q a s z) → After r Q
-  after-any Q f = go (r .verdict)
-    where
-      go : (v : Verdict A) → AfterAs v (r .state) (r .tape) Q
-      go (going a) = f a (r .state) (r .tape)
-      go refused = tt
-      go (failed n) = tt
 
 -- WHAT IS DECRYPTED between ws and r: nothing, or o for the proposer concerned
 abbrev pub Same : List Rec → List Rec → Type 0

@@ -48,6 +48,36 @@ after-inside {A = A} put r Q h = go (r .verdict) h
     go refused h = tt
     go (failed n) h = tt
 
+-- what holds of a run's state and answers, whatever its verdict
+pub after-with : {S A : Type 0} (r : Run S A) (Q : A → S → Tape → Type 0) (T : S → Tape → Type 0) → T (r .state) (r .tape) → After r Q → After r (λ a s z. Q a s z × T s z)
+after-with {A = A} r Q T t h = go (r .verdict) h
+  where
+    go : (v : Verdict A) → AfterAs v (r .state) (r .tape) Q → AfterAs v (r .state) (r .tape) (λ a s z. Q a s z × T s z)
+    go (going a) h = (h, t)
+    go refused h = tt
+    go (failed n) h = tt
+
+module _ {S A : Type 0} (r : Run S A) where
+  pub after-both : (P Q : A → S → Tape → Type 0) → After r P → After r Q → After r (λ a s z. P a s z × Q a s z)
+  after-both P Q f g = go (r .verdict) f g
+    where
+      go : (v : Verdict A) → AfterAs v (r .state) (r .tape) P → AfterAs v (r .state) (r .tape) Q → AfterAs v (r .state) (r .tape) (λ a s z. P a s z × Q a s z)
+      go (going a) f g = (f, g)
+      go refused f g = tt
+      go (failed n) f g = tt
+
+  pub after-any : (Q : A → S → Tape → Type 0) → ((a : A) (s : S) (z : Tape) → Q a s z) → After r Q
+  after-any Q f = go (r .verdict)
+    where
+      go : (v : Verdict A) → AfterAs v (r .state) (r .tape) Q
+      go (going a) = f a (r .state) (r .tape)
+      go refused = tt
+      go (failed n) = tt
+
+  -- of a run that goes on
+  pub after-out : (Q : A → S → Tape → Type 0) (a : A) → After r Q → r .verdict ≡ going a → Q a (r .state) (r .tape)
+  after-out Q a h e = rw e at h
+
 -- AN ANSWER THAT WAS READ: p's first record, behind which u stands
 pub record Reads (p : Tape) (kind b : ℕ) (u : Tape) : Type 0 where
   pub first : Rec

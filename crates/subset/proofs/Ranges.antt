@@ -19,8 +19,9 @@ use Rattle.steps.proofs.Ranges.{AllSmall, Kept, Any, SmallOption, SmallOutput, 
 use Rattle.proposal.specs.declared.ProposalState.{ProposalState}
 use Rattle.proposal.specs.declared.ProposalState.the-variants.{Ongoing, HasValue, Accepted, Complete}
 use Rattle.subset.specs.Words.{recordLength, epochLength, decidedAt, countAt, recordAt, valueAt, arrivalAt, proposalOf, tagOf, valueOf, loadProposal, storeProposal, addContribution, dropFrom}
+use Rattle.proposal.proofs.Walk.{Moves}
 use Rattle.proposal.specs.Proposal.{Moved, afterAgreement, afterBroadcast}
-use Rattle.subset.proofs.Walk.{Moves, Rules, try-keeps, propose-keeps, handle-keeps}
+use Rattle.subset.proofs.Walk.{Rules, try-keeps, propose-keeps, handle-keeps}
 use Rattle.subset.specs.Subset.{contributed, tryOutput, propose, handleMessage}
 
 -- THE LIMIT OF A PLACE, which its word is below. The epoch's own words: status, decided, accepted, count; the rest are 0
@@ -189,7 +190,7 @@ drop-ok n (suc m) i w l h =
 abbrev pub SafeEpoch : {A : Type 0} → ℕ → (List ℕ → Tape → Run (List ℕ) A) → Type 0
 SafeEpoch n k = (w : List ℕ) (p : Tape) → EpochOk n w → AllSmall (p .rest) → Kept (EpochOk n) Any (k w p)
 
-moves-ok : (n : ℕ) → Moves (small n) (keeping n ProposalOk) (keeping n (EpochOk n)) n
+moves-ok : (n : ℕ) → Moves (small n) (keeping n ProposalOk)
 unfolding SmallOption
 moves-ok n = record {
   reads = λ k e. within-below 3 7 16 k (omega arith) e;
