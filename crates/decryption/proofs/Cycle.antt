@@ -14,14 +14,13 @@ use Rattle.steps.specs.declared.reader.Answer.the-variants.{Got, Refused as NoA
 use Rattle.steps.specs.Network.{Network, isValidator}
 use Rattle.steps.specs.Answers.{Tape, asked, ask, askAbout}
 use Rattle.steps.specs.Steps.{Out, putEntry, putAll, message}
-use Rattle.steps.specs.Runs.{Verdict, going, refused, failed, Run, ends, before, onwardAs, onward, heardAs, heard, Left, leaves}
+use Rattle.steps.specs.Runs.{Verdict, going, refused, failed, Run, ends, before, onwardAs, onward, heard, Left, leaves}
 use Rattle.steps.proofs.Laws.{and-true}
-use Rattle.steps.proofs.RunLaws.{onward-assoc}
 use Rattle.steps.proofs.Runs.{onward-go, onward-refused, onward-stop, onward-at, onward-cong, heard-cong, heard-got, heard-none}
 use Rattle.decryption.specs.Decrypt.{withShares, withInput, withEnd, isSender, countShares, isShareValid, checkShare, removeFrom, removeInvalidShares, ownShare, startWith, combine, tryWith, startDecryption, tryOutput}
 use Rattle.decryption.specs.declared.ThresholdDecrypt.{ThresholdDecrypt}
-use Rattle.decryption.specs.Outcomes.{sendShare}
 use Rattle.decryption.proofs.Ends.{Ends, ends-cond, ends-heard, ends-onward}
+use Rattle.decryption.proofs.Laws.{unset}
 
 -- what starting and combining do of an instance and the answers
 abbrev pub Does : Type 0
@@ -140,66 +139,38 @@ module _ (net : NetworkInfo) (proposer : ℕ) where
   unfolding onward onwardAs
   try-started td p e h z s = rw (try-onward td p e h z, start-redundant (withEnd td) p s)
 
-  -- BOTH SEND THE OWN SHARE FIRST. Whoever sends it goes on with what follows
-  own-onward : (try : Does) (td : ThresholdDecrypt) (p : Tape) → ownShare net proposer try td p ≡ onward (ownShare net proposer (ends (going none)) td p) (λ _ td q. try td q)
-  unfolding ownShare heard heardAs onward onwardAs
-  own-onward try td p = go (isValidator net && net .«has_key») (ask p 11 .answer) (ask p 11 .tape)
-    where
-      sent : Does → ℕ → Tape → Run ThresholdDecrypt (Option ℕ)
-      sent f b q = before (message 3 proposer b ∷ []) (f (withShares td (set (td .shares) (net .«our_id») b)) q)
-
-      go : (x : Bool) (a : Answer) (t : Tape)
-          → cond x (heardAs a td t (λ _ b q. sent try b q)) (try td p)
-          ≡ onward (cond x (heardAs a td t (λ _ b q. sent (ends (going none)) b q)) (ends (going none) td p)) (λ _ td q. try td q)
-      go false a t = refl
-      go true (Got a b) t = refl
-      go true NoAnswer t = refl
-
-  start-sent : (td : ThresholdDecrypt) (p : Tape) → td .«had_input» ≡ false → (td .ciphertext ≡ 0 → ⊥) → startDecryption net proposer td p ≡ onward (sendShare net proposer td p) (λ _ td q. tryOutput net proposer td q)
-  start-sent td p e z =
-      start-onward td p e z
-      ∙ onward-cong _ _ _ (λ _ td q. own-onward (tryOutput net proposer) (withInput td) q)
-      ∙ sym (onward-assoc (removeInvalidShares td p) (λ _ td q. ownShare net proposer (ends (going none)) (withInput td) q) (λ _ td q. tryOutput net proposer td q))
-
-  try-sent : (td : ThresholdDecrypt) (p : Tape) → td .terminated ≡ false → net .«num_faulty» < countShares (td .shares) → (td .ciphertext ≡ 0 → ⊥) → td .«had_input» ≡ false
-      → tryOutput net proposer td p ≡ onward (sendShare net proposer (withEnd td) p) (λ _ td q. combine td q)
-  unfolding tryOutput tryWith startWith
-  try-sent td p e h z i = rw (e, lt-leb _ _ h, ne-eqb _ _ z, i)
-
   own-quiet : (td : ThresholdDecrypt) (p : Tape) → Ends Quiet (ownShare net proposer (ends (going none)) td p)
   unfolding ownShare
   own-quiet td p = ends-cond Quiet (isValidator net && net .«has_key») _ _ (ends-heard Quiet (ask p 11) td _ quiet-refused (λ a b q. quiet-none)) quiet-none
 
-  -- what does not go on with nothing does not go on
-  send-stops : (td : ThresholdDecrypt) (p : Tape) (o : Out) (d : Left ThresholdDecrypt (Option ℕ)) → d ≡ leaves o (sendShare net proposer td p) → (d .verdict ≡ going none → ⊥) → (a : Option ℕ) → d .verdict ≡ going a → ⊥
-  send-stops td p o d r n none m = n m
-  send-stops td p o d r n (some b) m =
-      ends-onward Quiet (removeInvalidShares td p) _ (λ e. quiet-refused) (λ c e. quiet-failed c) (λ _ e. own-quiet _ _) b (sym (ap (λ x. x .verdict) r) ∙ m)
+  pub start-quiet : (td : ThresholdDecrypt) (p : Tape) (h : ℕ) → startDecryption net proposer (withEnd td) p .verdict ≡ going (some h) → ⊥
+  unfolding startWith
+  start-quiet td p =
+      rw (← start-ended td p)
+      (ends-cond Quiet (td .«had_input») _ _ quiet-none
+      (ends-cond Quiet (eqb (td .ciphertext) 0) _ _ (quiet-failed 24)
+      (ends-onward Quiet (removeInvalidShares (withEnd td) p) _ (λ e. quiet-refused) (λ n e. quiet-failed n) (λ _ e. own-quiet _ _))))
 
-  -- what a function leaves, from what sending left
-  module _ (td : ThresholdDecrypt) (p : Tape) (o : Out) (d : Left ThresholdDecrypt (Option ℕ)) where
-    module _ (e : td .«had_input» ≡ false) (z : td .ciphertext ≡ 0 → ⊥) (r : d ≡ leaves o (sendShare net proposer td p)) where
-      pub start-stops : (d .verdict ≡ going none → ⊥) → d ≡ leaves o (startDecryption net proposer td p)
-      start-stops n = rw (start-sent td p e z) (onward-stop d o _ _ r (send-stops td p o d r n))
+  -- what a function leaves, from what its calls left
+  module _ (td : ThresholdDecrypt) (p : Tape) (o : Out) where
+    module _ (d : Left ThresholdDecrypt (Unit {0})) (e : td .«had_input» ≡ false) (z : td .ciphertext ≡ 0 → ⊥) (r : d ≡ leaves o (removeInvalidShares td p)) where
+      pub start-refused : d .verdict ≡ refused → leaves (d .out) (ends {A = Option ℕ} refused (d .state) (d .tape)) ≡ leaves o (startDecryption net proposer td p)
+      unfolding putAll
+      start-refused n = rw (start-onward td p e z) (onward-refused d o _ _ r n)
 
-      pub start-goes : d .verdict ≡ going none → leaves (d .out) (tryOutput net proposer (d .state) (d .tape)) ≡ leaves o (startDecryption net proposer td p)
-      start-goes n = rw (start-sent td p e z) (onward-go d o _ (λ _ td q. tryOutput net proposer td q) r none n)
+      pub start-goes : d .verdict ≡ going tt → leaves (d .out) (ownShare net proposer (tryOutput net proposer) (withInput (d .state)) (d .tape)) ≡ leaves o (startDecryption net proposer td p)
+      start-goes n = rw (start-onward td p e z) (onward-go d o _ (λ _ td q. ownShare net proposer (tryOutput net proposer) (withInput td) q) r tt n)
 
-    module _ (e : td .terminated ≡ false) (h : net .«num_faulty» < countShares (td .shares)) (z : td .ciphertext ≡ 0 → ⊥) (i : td .«had_input» ≡ false) (r : d ≡ leaves o (sendShare net proposer (withEnd td) p)) where
+    module _ (d : Left ThresholdDecrypt (Option ℕ)) (e : td .terminated ≡ false) (h : net .«num_faulty» < countShares (td .shares)) (z : td .ciphertext ≡ 0 → ⊥) (r : d ≡ leaves o (startDecryption net proposer (withEnd td) p)) where
       pub try-stops : (d .verdict ≡ going none → ⊥) → d ≡ leaves o (tryOutput net proposer td p)
-      try-stops n = rw (try-sent td p e h z i) (onward-stop d o _ _ r (send-stops (withEnd td) p o d r n))
+      try-stops n = rw (try-onward td p e h z) (onward-stop d o _ _ r stops)
+        where
+          stops : (a : Option ℕ) → d .verdict ≡ going a → ⊥
+          stops none m = n m
+          stops (some b) m = start-quiet td p b (sym (ap (λ x. x .verdict) r) ∙ m)
 
       pub try-goes : d .verdict ≡ going none → leaves (d .out) (combine (d .state) (d .tape)) ≡ leaves o (tryOutput net proposer td p)
-      try-goes n = rw (try-sent td p e h z i) (onward-go d o _ (λ _ td q. combine td q) r none n)
-
-  -- what sending leaves, from what checking left
-  module _ (td : ThresholdDecrypt) (p : Tape) (o : Out) (d : Left ThresholdDecrypt (Unit {0})) (r : d ≡ leaves o (removeInvalidShares td p)) where
-    pub send-refused : d .verdict ≡ refused → leaves (d .out) (ends {A = Option ℕ} refused (d .state) (d .tape)) ≡ leaves o (sendShare net proposer td p)
-    unfolding putAll
-    send-refused n = onward-refused d o _ _ r n
-
-    pub send-goes : d .verdict ≡ going tt → leaves (d .out) (ownShare net proposer (ends (going none)) (withInput (d .state)) (d .tape)) ≡ leaves o (sendShare net proposer td p)
-    send-goes n = onward-go d o _ (λ _ td q. ownShare net proposer (ends (going none)) (withInput td) q) r tt n
+      try-goes n = rw (try-onward td p e h z) (onward-go d o _ (λ _ td q. combine td q) r none n)
 
   -- the own share, case by case
   module _ (try : Does) (td : ThresholdDecrypt) (p : Tape) where
@@ -232,3 +203,12 @@ module _ (td : ThresholdDecrypt) (p : Tape) (x : Answer) (q : Tape) (k : asked x
   pub combine-plain : (a b : ℕ) → x ≡ Got a b → (a ≡ 0 → ⊥) → combine td p ≡ ends (going (some b)) td q
   unfolding combine
   combine-plain a b n z = heard-got _ x q td _ k a b n ∙ rw (ne-eqb _ _ z)
+
+-- each call sets a flag
+pub started-falls : (td : ThresholdDecrypt) (p : Tape) (o : Out) (d : Left ThresholdDecrypt (Unit {0})) (t : ℕ) → unset td ≡ t → td .«had_input» ≡ false → d ≡ leaves o (removeInvalidShares td p) → unset (withInput (d .state)) < t
+started-falls td p o d t u e r =
+    let m : d .state .terminated ≡ td .terminated = ap (λ x. x .state .terminated) r ∙ remove-ended _ td p refl in
+    rw (← u, m, e) (omega arith)
+
+pub ended-falls : (td : ThresholdDecrypt) (t : ℕ) → unset td ≡ t → td .terminated ≡ false → unset (withEnd td) < t
+ended-falls td t u e = rw (← u, e) (omega arith)
