@@ -7,8 +7,7 @@ use Rattle.steps.specs.Numbers.{decryption, multipleInputs}
 use Rattle.steps.specs.Answers.{Tape}
 use Rattle.steps.specs.declared.step.Step.{Step}
 use Rattle.steps.specs.Steps.{out}
-use Rattle.steps.specs.declared.network_info.NetworkInfo.{NetworkInfo}
-use Rattle.steps.specs.Runs.{Verdict, going, refused, failed, Run, ends, onward, Left}
+use Rattle.steps.specs.Runs.{Verdict, going, refused, failed, Run, ends, Left}
 use Rattle.decryption.specs.declared.ThresholdDecrypt.{ThresholdDecrypt}
 use Rattle.decryption.specs.declared.SetOutcome.{SetOutcome}
 use Rattle.decryption.specs.declared.SetOutcome.the-variants.{Set, Invalid as NotSet, MultipleInputs, Refused as NoneSet}
@@ -21,7 +20,6 @@ use Rattle.decryption.specs.declared.Removed.{Removed}
 use Rattle.decryption.specs.declared.Outcome.{Outcome}
 use Rattle.decryption.specs.declared.Outcome.the-variants.{Nothing, Plaintext, Refused, Decryption}
 use Rattle.decryption.specs.declared.Handled.{Handled}
-use Rattle.decryption.specs.Decrypt.{withInput, removeInvalidShares, ownShare}
 
 -- the ciphertext is set (true) or does not verify (false); 25 `MultipleInputs`
 abbrev pub setVerdict : SetOutcome → Verdict Bool
@@ -63,7 +61,3 @@ left r p w = record { state = r .td; verdict = verdict (r .outcome); tape = p; o
 -- the result with these parts
 abbrev pub handled : ThresholdDecrypt → Outcome → Step → Handled
 handled td o s = record { td = td; outcome = o; step = s }
-
--- starting, up to where it tries to combine: the shares are checked, and the own one is sent
-abbrev pub sendShare : NetworkInfo → ℕ → ThresholdDecrypt → Tape → Run ThresholdDecrypt (Option ℕ)
-sendShare net proposer td p = onward (removeInvalidShares td p) (λ _ td q. ownShare net proposer (ends (going none)) (withInput td) q)

@@ -11,7 +11,7 @@ ghost use Rattle.steps.specs.declared.step.Step.{Step};
 ghost use Rattle.steps.specs.Steps.{out};
 ghost use Rattle.steps.specs.Runs.{leaves};
 ghost use Rattle.decryption.specs.declared.ThresholdDecrypt.{ThresholdDecrypt};
-ghost use Rattle.decryption.specs.Outcomes.{leftSet, leftValid, leftChecked, left, handled, sendShare};
+ghost use Rattle.decryption.specs.Outcomes.{leftSet, leftValid, leftChecked, left, handled};
 ghost use Rattle.decryption.specs.Decrypt.{new, isSender, countShares, setCiphertext, isShareValid, removeInvalidShares, combine, startDecryption, tryOutput, storeShare, handleMessage};
 use steps::network_info::NetworkInfo;
 use steps::numbers::CIPHERTEXT_VERIFIES;
@@ -262,30 +262,6 @@ impl ThresholdDecrypt {
         if self.ciphertext == 0 {
             return self.handled(Outcome::Decryption, step);
         }
-        let sent = self.send_share(net, proposer, answers, place, step, words);
-        let outcome = sent.outcome;
-        let Outcome::Nothing = outcome else {
-            return sent;
-        };
-        let td = sent.td;
-        let done = sent.step;
-        td.try_output(net, proposer, answers, place, done, words)
-    }
-
-    // Removes invalid shares, and sends the own one, where the node has a key for it.
-    fn send_share(
-        self,
-        net: NetworkInfo,
-        proposer: u64,
-        answers: &[u64],
-        place: &mut usize,
-        step: Step,
-        words: &mut [u64],
-    ) -> Handled
-        requires { ⌜ Network net ⌝ }
-        ensures { λ r. ⌜ left r (tapeAt (now (answers .entry)) (now (place .exit))) (now (words .exit))
-            ≡ leaves (out step (now (words .entry))) (sendShare net proposer self (tapeAt (now (answers .entry)) (now (place .entry)))) ⌝ }
-    {
         let removed = self.remove_invalid_shares(answers, place, step, words);
         let mut td = removed.td;
         let done = removed.step;
@@ -295,14 +271,14 @@ impl ThresholdDecrypt {
         };
         td.had_input = true;
         if !(net.is_validator() & net.has_key) {
-            return td.handled(Outcome::Nothing, done);
+            return td.try_output(net, proposer, answers, place, done, words);
         }
         match steps::reader::ask(answers, place, OWN_DECRYPTION_SHARE) {
             Answer::Got { a: _, b } => {
                 let sent = done.message(words, SHARE_CONTENT, proposer, b);
                 let own = net.our_id;
                 td.shares[own] = b;
-                td.handled(Outcome::Nothing, sent)
+                td.try_output(net, proposer, answers, place, sent, words)
             }
             Answer::Refused => td.handled(Outcome::Refused, done),
         }
@@ -334,18 +310,18 @@ impl ThresholdDecrypt {
         }
         let mut td = self;
         td.terminated = true;
-        // Starting again would change nothing, and starting now would end where it tries to combine.
+        // Starting again would change nothing.
         if td.had_input {
             let combined = combine(answers, place);
             return td.handled(combined, step);
         }
-        let sent = td.send_share(net, proposer, answers, place, step, words);
-        let outcome = sent.outcome;
+        let started = td.start_decryption(net, proposer, answers, place, step, words);
+        let outcome = started.outcome;
         let Outcome::Nothing = outcome else {
-            return sent;
+            return started;
         };
-        let last = sent.td;
-        let done = sent.step;
+        let last = started.td;
+        let done = started.step;
         let combined = combine(answers, place);
         last.handled(combined, done)
     }

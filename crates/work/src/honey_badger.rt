@@ -47,22 +47,22 @@ pub enum Call {
     Message(usize, usize, MessageContent),
 }
 
-// What handing out the batch of an epoch comes to.
-pub enum Trial {
-    NotReady,
-    Done,
-    Refused,
-}
+// What handing out the batch of an epoch comes to, as numbers: a word beside the step is copied faster than an enum, which has padding.
+pub const HANDED_OUT: u64 = 0;
+
+pub const NOT_READY: u64 = 1;
+
+pub const REFUSED: u64 = 2;
 
 pub struct Tried {
-    pub outcome: Trial,
+    pub outcome: u64,
     pub step: Step,
 }
 
 // What handing out batches comes to: the epoch that is next, and how the last turn ended.
 pub struct Batches {
     pub next: u64,
-    pub outcome: Trial,
+    pub outcome: u64,
     pub step: Step,
 }
 
@@ -90,7 +90,7 @@ fn try_output_batch(
     let size = RECORD_FIELDS + n;
     if !is_ready(words, size, n) {
         return Tried {
-            outcome: Trial::NotReady,
+            outcome: NOT_READY,
             step,
         };
     }
@@ -99,11 +99,11 @@ fn try_output_batch(
     let outcome = batch.outcome;
     match outcome {
         Handed::Done => Tried {
-            outcome: Trial::Done,
+            outcome: HANDED_OUT,
             step: s,
         },
         Handed::Refused => Tried {
-            outcome: Trial::Refused,
+            outcome: REFUSED,
             step: s,
         },
     }
@@ -154,19 +154,19 @@ fn try_output_batches(
         let tried = try_output_at(state, epoch, words, next, answers, place, s, table);
         let outcome = tried.outcome;
         s = tried.step;
-        let Trial::Done = outcome else {
+        if outcome != HANDED_OUT {
             return Batches {
                 next,
                 outcome,
                 step: s,
             };
-        };
+        }
         next += 1;
         left -= 1;
     }
     Batches {
         next,
-        outcome: Trial::Done,
+        outcome: HANDED_OUT,
         step: s,
     }
 }
@@ -285,16 +285,16 @@ pub fn run(
     let next = batches.next;
     let all = batches.step;
     let ended = batches.outcome;
-    match ended {
-        Trial::Refused => Ran {
+    if ended == REFUSED {
+        return Ran {
             next,
             outcome: Outcome::Refused,
             step: all,
-        },
-        _ => Ran {
-            next,
-            outcome: Outcome::Done,
-            step: all,
-        },
+        };
+    }
+    Ran {
+        next,
+        outcome: Outcome::Done,
+        step: all,
     }
 }
