@@ -12,10 +12,11 @@ use lib.ListN.{length, replicate}
 use Rattle.steps.specs.Steps.{Item, item, linkAfter}
 use Rattle.steps.specs.Answers.{Rec}
 use Rattle.steps.specs.Batches.{Batch}
+use Rattle.steps.proofs.CaseTables.{table}
 use Rattle.state.specs.State.{stateLength, scratchLength}
 use Rattle.agreement.specs.History.{Call, propose, message, skip, Event, handed, valueTaken, decisionTaken, readings}
 use Rattle.agreement.specs.Claim.{Made, turnsOf, historyOf, encryptedOf}
-use Rattle.agreement.specs.Pair.{built, serialised, broadcast, delivered, voted, reads, readsNot, table, repliesIn, Seen, seenIn, entry}
+use Rattle.agreement.proofs.FirstPairRuns.{built, serialised, broadcast, delivered, voted, reads, readsNot, repliesIn, Seen, seenIn, entry}
 use Rattle.agreement.specs.Opened.{opened}
 
 -- ANSWERS, besides those of the first pair. Vote 0 for p decides 0
