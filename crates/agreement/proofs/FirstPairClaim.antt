@@ -1,4 +1,4 @@
--- The worked pair of specs/Pair.antt: all premises of demand 3's claim hold of it (`sound-a`, `sound-b`, `same`, `premises`), and so do all
+-- The worked pair of FirstPairRuns.antt: all premises of demand 3's claim hold of it (`sound-a`, `sound-b`, `same`, `premises`), and so do all
 -- its conclusions (`conclusions`). The tests of Tests.antt are computed.
 use Prim.Native.Nat.{ℕ, _+_, _*_}
 use mathlib.Core.Path.{refl}

@@ -1,4 +1,4 @@
--- The output of the worked pair of runs (Pair.antt) with its values, and its answers to kind 8, computed: what Rule.antt states of every run.
+-- The output of the worked pair of runs (FirstPairRuns.antt) with its values, and its answers to kind 8, computed: what specs/Rule.antt states of every run.
 use Prim.Native.Nat.{ℕ}
 use mathlib.Core.Path.{_≡_, refl}
 use mathlib.Core.List.{List, [], _∷_}

@@ -1,5 +1,5 @@
 -- A WORKED PAIR OF RUNS for demand 3 (Claim.antt): two hosts, two epochs, a batch of each epoch on both hosts. Here are the runs and what
--- is computed of them; proofs/Pair.antt proves that all premises of the claim hold of them, and computes its conclusions.
+-- is computed of them; FirstPairClaim.antt proves that all premises of the claim hold of them, and computes its conclusions.
 use Prim.Native.Nat.{ℕ}
 use mathlib.Core.Path.{_≡_, refl}
 use mathlib.Core.List.{List, [], _∷_, _++_}

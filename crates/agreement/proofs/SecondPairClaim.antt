@@ -1,4 +1,4 @@
--- The worked pair of specs/SecondPair.antt: all premises of demand 3's claim hold of it (`sound-c`, `sound-d`, `same`, `premises`), and so do
+-- The worked pair of SecondPairRuns.antt: all premises of demand 3's claim hold of it (`sound-c`, `sound-d`, `same`, `premises`), and so do
 -- all its conclusions (`conclusions`). The tests of Tests.antt are computed.
 use Prim.Native.Nat.{ℕ, _+_, _*_}
 use mathlib.Core.Path.{_≡_, refl}

@@ -1,7 +1,7 @@
 -- A SECOND WORKED PAIR OF RUNS for demand 3 (Claim.antt): a validator and an observer among N 4 with f 1. Here are the runs and what is
--- computed of them; proofs/SecondPair.antt proves that all premises of the claim hold of them, and computes its conclusions.
+-- computed of them; SecondPairClaim.antt proves that all premises of the claim hold of them, and computes its conclusions.
 --
--- What this pair has and the first one (Pair.antt) has not: one decision 0 in each epoch; share messages, some before the ciphertext, whose
+-- What this pair has and the first one (FirstPairRuns.antt) has not: one decision 0 in each epoch; share messages, some before the ciphertext, whose
 -- shares combine; an observer; two proposers with the same value; a skip that moves; an epoch that only one host hands out, on each side.
 use Prim.Native.Nat.{ℕ, _+_, max}
 use mathlib.Core.Path.{_≡_, refl}

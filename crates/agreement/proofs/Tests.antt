@@ -1,5 +1,5 @@
 -- Computed tests for what demand 3's claim says of closed runs: where a test is true, the premise or conclusion that it stands for holds. The
--- worked pairs (Pair.antt, SecondPair.antt) compute them. Assumes nothing.
+-- worked pairs (FirstPairClaim.antt, SecondPairClaim.antt) compute them. Assumes nothing.
 use Prim.Native.Nat.{ℕ, zero, suc, _+_, _-_, _<_}
 use mathlib.Core.Path.{_≡_, refl, sym, _∙_}
 use mathlib.Core.Logic.{_⊎_, inl, inr}
