@@ -139,25 +139,13 @@ def opened(names, own):
     return "\n".join(uses) + "\n\nunfoldable pub opened : Unit {0}\nunfolding " + " ".join(words) + "\nopened = tt\n"
 
 
-def computed(folder):
-    """The modules of specs/ that open all definitions to compute cases of them, and those that use such a module."""
-    texts = {file.stem: file.read_text() for file in folder.glob("*.antt") if file.stem != "Lib"}
-    found = {"Opened"} & texts.keys()
-    while True:
-        more = {name for name, text in texts.items() if any(re.search(rf"·specs\.specs\.{other}\b", text) for other in found)} - found
-        if not more:
-            return found
-        found |= more
-
-
 def make_repository(folder):
     for layer in LAYERS:
         source, made = ROOT / "crates" / layer, folder / "crates" / layer
-        shutil.copytree(source / "specs", made / "specs")
-        for name in computed(made / "specs"):
-            (made / "specs" / f"{name}.antt").unlink()
-            lib = made / "specs" / "Lib.antt"
-            lib.write_text(lib.read_text().replace(f"pub mod {name}\n", ""))
+        # the judged crate opens all definitions in one module of its own
+        shutil.copytree(source / "specs", made / "specs", ignore=shutil.ignore_patterns("Opened.antt"))
+        lib = made / "specs" / "Lib.antt"
+        lib.write_text(lib.read_text().replace("pub mod Opened\n", ""))
         (made / "src").mkdir(parents=True)
         for name, text in quick.sources(source).items():
             (made / "src" / name).write_text(text)

@@ -16,6 +16,9 @@ pub mod Eights
 pub mod Rule
 pub mod Operations
 pub mod Tests
-pub mod Pair
+pub mod FirstPairRuns
+pub mod FirstPairRule
+pub mod FirstPairClaim
+pub mod SecondPairRuns
+pub mod SecondPairClaim
 pub mod Worked
-pub mod SecondPair

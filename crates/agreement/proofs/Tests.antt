@@ -1,5 +1,5 @@
 -- Computed tests for what demand 3's claim says of closed runs: where a test is true, the premise or conclusion that it stands for holds. The
--- worked pairs (Pair.antt, SecondPair.antt) compute them. Assumes nothing.
+-- worked pairs (FirstPairClaim.antt, SecondPairClaim.antt) compute them. Assumes nothing.
 use Prim.Native.Nat.{ℕ, zero, suc, _+_, _-_, _<_}
 use mathlib.Core.Path.{_≡_, refl, sym, _∙_}
 use mathlib.Core.Logic.{_⊎_, inl, inr}
@@ -15,7 +15,7 @@ use Rattle.steps.specs.Taken.{orElse, isTrue, lastOutputIn, firstTaken, thirtee
 use Rattle.steps.specs.Batches.{BatchEntry, Batch}
 use Rattle.agreement.specs.History.{Turn, noneFails, Event, taken, decisionTaken, decidedTrueIn, onesIn, Handed, handed, handedIn, namesOf, thirteensOf, unreadable, unreadableOf, contributors, Reading}
 use Rattle.agreement.specs.Claim.{TookAlike, ReadAlike, DecidedTrue, Rising, Exact, One, Two}
-use Rattle.agreement.specs.Pair.{repliesIn}
+use Rattle.agreement.proofs.FirstPairRuns.{repliesIn}
 use Rattle.agreement.proofs.Handout.{true-one, is-true}
 
 -- two tests, both true

@@ -8,12 +8,13 @@ use mathlib.Core.Option.{Option, none}
 use lib.ListN.{replicate}
 use Rattle.steps.specs.Steps.{Item, item}
 use Rattle.steps.specs.Taken.{asked, onesFrom}
+use Rattle.steps.proofs.CaseTables.{table}
 use Rattle.state.specs.State.{stateLength, scratchLength}
 use Rattle.agreement.specs.History.{Call, propose, message, skip, Event}
 use Rattle.agreement.specs.Claim.{Made, turnsOf, historyOf}
 use Rattle.agreement.specs.Rule.{netIn, decidedBefore7, speaks}
 use Rattle.agreement.specs.Opened.{opened}
-use Rattle.agreement.specs.Pair.{built, table, repliesIn}
+use Rattle.agreement.proofs.FirstPairRuns.{built, repliesIn}
 
 -- the agreement about p decides 1
 abbrev decides : ℕ → List Item

@@ -1,5 +1,5 @@
 -- DEMAND 3: the claim about two whole lists of calls, each applied by the definitions that the contracts cite. Proved: `agreement` in
--- proofs/Agreement.antt. That it is not empty is shown by two worked pairs of runs (Pair.antt, SecondPair.antt).
+-- proofs/Agreement.antt. That it is not empty is shown by two worked pairs of runs (proofs/FirstPairClaim.antt, proofs/SecondPairClaim.antt).
 use Prim.Native.Nat.{ℕ, _-_, _+_, _≤_, _<_}
 use mathlib.Core.Path.{_≡_}
 use mathlib.Core.Logic.{_⊎_}

@@ -4,6 +4,3 @@ pub mod Outputs
 pub mod Rule
 pub mod Operations
 pub mod Opened
-pub mod Pair
-pub mod PairRule
-pub mod SecondPair

@@ -7,3 +7,4 @@ pub mod Reading
 pub mod Errors
 pub mod Ranges
 pub mod Bounded
+pub mod DecryptionCases

@@ -1,4 +1,3 @@
 pub mod Outcomes
 pub mod Decrypt
 pub mod Opened
-pub mod Cases

@@ -3,3 +3,5 @@ pub mod Refusals
 pub mod Creating
 pub mod FaultCount
 pub mod Received
+pub mod BenchCases
+pub mod FurtherCases

@@ -21,3 +21,4 @@ pub mod Batches
 pub mod Bounded
 pub mod Orders
 pub mod Lists
+pub mod EpochCases

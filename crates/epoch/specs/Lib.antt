@@ -2,4 +2,3 @@ pub mod Epoch
 pub mod Outcomes
 pub mod Orders
 pub mod Opened
-pub mod Cases

@@ -2,3 +2,4 @@
 pub mod Proposals
 pub mod Moves
 pub mod Walk
+pub mod ProposalCases

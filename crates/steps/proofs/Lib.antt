@@ -19,3 +19,4 @@ pub mod BitLaws
 pub mod Bounded
 pub mod Fails
 pub mod States
+pub mod CaseTables

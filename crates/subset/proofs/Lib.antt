@@ -6,6 +6,7 @@ pub mod Held
 pub mod Taken
 pub mod Calls
 pub mod Rule
+pub mod SubsetCases
 pub mod Worked
 pub mod Ranges
 pub mod Votes

@@ -3,5 +3,4 @@ pub mod Subset
 pub mod Bits
 pub mod Outcomes
 pub mod Opened
-pub mod Cases
 pub mod Rule

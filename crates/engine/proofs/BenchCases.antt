@@ -1,11 +1,13 @@
 -- The twelve bench cases of document 01, as one table under one statement, `bench-cases`, which is proved by computing the definitions.
--- Where the rows that the document gives would not refuse one of its plausible but wrong programs, there are more.
+-- Where the rows that the document gives would not refuse one of its plausible but wrong programs, there are more. Assumes nothing.
 use Prim.Native.Nat.{ℕ}
-use mathlib.Core.Path.{_≡_, refl}
+use mathlib.Core.Path.{refl}
 use mathlib.Core.List.{List, [], _∷_, _++_}
 use mathlib.Core.Bool.{cond}
 use lib.ListN.{length, getD, set, replicate}
-use Rattle.steps.specs.Steps.{Item, item, chainWords, firstAt}
+use Rattle.steps.specs.Steps.{Item, item}
+use Rattle.steps.proofs.CaseTables
+use Rattle.steps.proofs.CaseTables.{Row, _⇒_, Case, case, Done, done, stateAfter, AllHold, yes, no, out, table}
 use Rattle.calls.specs.Calls.{proposeCall, messageCall, skipReply, skipState, queryReply, currentEpochResult, hasInputResult, receivedProposalsResult, faultCountResult}
 use Rattle.engine.specs.Create.{Numbers, createReply, createState}
 use Rattle.state.specs.State.{encryptedIn}
@@ -34,15 +36,8 @@ pub data Op : Type 0 where
 abbrev pub nines : ℕ → List ℕ
 nines k = replicate k 9
 
--- the state after an operation, and what is seen of it: the reply, then the step's words or the query's result
-pub record Done : Type 0 where
-  pub state : List ℕ
-  pub seen : List ℕ
-
-abbrev pub done : List ℕ → List ℕ → Done
-done state seen = record { state = state; seen = seen }
-
-unfoldable pub apply : Op → List ℕ → Done
+-- what is seen of an operation: the reply, then the step's words or the query's result
+unfoldable pub apply : Op → List ℕ → Done (List ℕ) (List ℕ)
 apply (create c k) w = done (createState c (nines k)) (createReply c (nines k) ∷ [])
 apply (propose answers step) w =
     let r = proposeCall w (nines (length w)) answers step in done (r .state) (r .reply ∷ r .step)
@@ -58,63 +53,20 @@ apply (encrypts epoch) w = done w (cond (encryptedIn w epoch) 1 0 ∷ [])
 apply (wordAt i) w = done w (getD w i 0 ∷ [])
 apply (putWord i x) w = done (set w i x) []
 
--- a row: an operation, and what must be seen of it
-pub record Row : Type 0 where
-  pub op : Op
-  pub expected : List ℕ
+abbrev pub Rows : Type 0
+Rows = List (Row Op (List ℕ))
 
-infix 4 _⇒_
-abbrev pub _⇒_ : Op → List ℕ → Row
-op ⇒ expected = record { op = op; expected = expected }
+abbrev pub Cases : Type 0
+Cases = List (Case Op (List ℕ) (List ℕ))
 
--- a case: its number, the rows that bring the state about, and its own rows
-pub record Case : Type 0 where
-  pub number : ℕ
-  pub earlier : List Row
-  pub rows : List Row
-
-abbrev pub case : ℕ → List Row → Case
-case n rows = record { number = n; earlier = []; rows = rows }
-
-abbrev pub caseAfter : ℕ → List Row → List Row → Case
-caseAfter n earlier rows = record { number = n; earlier = earlier; rows = rows }
-
--- each operation is applied to the state as the one before left it
-unfoldable pub stateAfter : List Row → List ℕ → List ℕ
-stateAfter [] w = w
-stateAfter (r ∷ rs) w = stateAfter rs (apply (r .op) w .state)
-
-unfoldable pub seenIn : List Row → List ℕ → List (List ℕ)
-seenIn [] w = []
-seenIn (r ∷ rs) w = let d = apply (r .op) w in d .seen ∷ seenIn rs (d .state)
-
-unfoldable pub expectedIn : List Row → List (List ℕ)
-expectedIn [] = []
-expectedIn (r ∷ rs) = r .expected ∷ expectedIn rs
-
--- THE STATEMENT: in every case, what is seen is what the rows say. The first row creates the state
-unfoldable pub AllHold : List Case → Type 0
-AllHold [] = Unit {0}
-AllHold (c ∷ cs) = (seenIn (c .rows) (stateAfter (c .earlier) []) ≡ expectedIn (c .rows)) × AllHold cs
+-- a case begins with no state, which its first row creates, or with what other rows leave
+abbrev pub after : Rows → List ℕ
+after rows = stateAfter apply rows []
 
 -- SHORT FORMS. The ten numbers: N, f, F, own index, key flag, strategy, start epoch, schedule kind and its numbers
 abbrev pub numbers : ℕ → ℕ → ℕ → ℕ → ℕ → ℕ → ℕ → ℕ → ℕ → ℕ → Numbers
 numbers n f ahead own key strategy epoch schedule a b =
     record { nodes = n; faulty = f; ahead = ahead; own = own; key = key; strategy = strategy; epoch = epoch; schedule = schedule; first = a; second = b }
-
--- an answer of this kind with a = 1, one with a = 0, and the part 18
-abbrev pub yes : ℕ → ℕ → Item
-yes kind b = item kind 1 b
-
-abbrev pub no : ℕ → ℕ → Item
-no kind b = item kind 0 b
-
-abbrev pub out : ℕ → Item
-out b = item 18 0 b
-
--- the answer table with these records, one after the other
-abbrev pub answers : List Item → List ℕ
-answers rs = firstAt 1 rs ∷ 0 ∷ 0 ∷ 0 ∷ chainWords 1 rs
 
 -- a record of the step
 abbrev pub rec : ℕ → ℕ → ℕ → ℕ → List ℕ
@@ -122,13 +74,13 @@ rec next kind a b = next ∷ kind ∷ a ∷ b ∷ []
 
 -- messages of epoch 0 for a proposer, from node 0, and shares from their sender, with two step records lent
 abbrev pub broadcast : ℕ → List Item → Op
-broadcast proposer rs = message 0 0 1 proposer 0 (answers rs) (nines 8)
+broadcast proposer rs = message 0 0 1 proposer 0 (table rs) (nines 8)
 
 abbrev pub agreement : ℕ → List Item → Op
-agreement proposer rs = message 0 0 2 proposer 0 (answers rs) (nines 8)
+agreement proposer rs = message 0 0 2 proposer 0 (table rs) (nines 8)
 
 abbrev pub share : ℕ → ℕ → ℕ → List Item → Op
-share sender proposer handle rs = message sender 0 3 proposer handle (answers rs) (nines 8)
+share sender proposer handle rs = message sender 0 3 proposer handle (table rs) (nines 8)
 
 -- what is seen of such a call: reply 0 and an empty step, reply 0 and a fault, reply 8 (another answer is wanted), reply 9 (answers remain unread)
 abbrev pub passes : List ℕ
@@ -148,13 +100,13 @@ abbrev pub alone : Op
 alone = create (numbers 1 0 0 0 1 0 0 1 0 0) 41
 
 abbrev pub chain-1 : List ℕ
-chain-1 = answers (yes 1 0 ∷ yes 2 7 ∷ yes 3 0 ∷ out 7 ∷ yes 6 0 ∷ out 1 ∷ yes 13 0 ∷ [])
+chain-1 = table (yes 1 0 ∷ yes 2 7 ∷ yes 3 0 ∷ out 7 ∷ yes 6 0 ∷ out 1 ∷ yes 13 0 ∷ [])
 
 abbrev pub step-1 : List ℕ
 step-1 = rec 0 0 1 0 ++ rec 2 1 0 1 ++ rec 0 2 0 7
 
 -- CASE 1. "N 1, f 0, F 0, own 0, Never, Incremental, epoch 0; propose; chain 1, 2 (b 7), 3, 18 (7), 6, 18 (1), 13 […]. Epoch is now 1."
-abbrev pub case-1 : List Row
+abbrev pub case-1 : Rows
 case-1 =
     (alone ⇒ 0 ∷ [])
     ∷ (propose chain-1 (nines 16) ⇒ 0 ∷ step-1 ++ nines 4)
@@ -162,24 +114,24 @@ case-1 =
     ∷ []
 
 -- "taking the first output of an answer" is wrong: of several the last counts
-abbrev pub case-1-outputs : List Row
+abbrev pub case-1-outputs : Rows
 case-1-outputs =
     (alone ⇒ 0 ∷ [])
-    ∷ (propose (answers (yes 1 0 ∷ yes 2 7 ∷ yes 3 0 ∷ out 6 ∷ out 7 ∷ yes 6 0 ∷ out 0 ∷ out 1 ∷ yes 13 0 ∷ [])) (nines 12) ⇒ 0 ∷ step-1)
+    ∷ (propose (table (yes 1 0 ∷ yes 2 7 ∷ yes 3 0 ∷ out 6 ∷ out 7 ∷ yes 6 0 ∷ out 0 ∷ out 1 ∷ yes 13 0 ∷ [])) (nines 12) ⇒ 0 ∷ step-1)
     ∷ []
 
 -- CASE 2. "Same, 13 answers 0"
-abbrev pub case-2 : List Row
+abbrev pub case-2 : Rows
 case-2 =
     (alone ⇒ 0 ∷ [])
-    ∷ (propose (answers (yes 1 0 ∷ yes 2 7 ∷ yes 3 0 ∷ out 7 ∷ yes 6 0 ∷ out 1 ∷ no 13 0 ∷ [])) (nines 16)
+    ∷ (propose (table (yes 1 0 ∷ yes 2 7 ∷ yes 3 0 ∷ out 7 ∷ yes 6 0 ∷ out 1 ∷ no 13 0 ∷ [])) (nines 16)
     ⇒ 0 ∷ rec 0 1 2 0 ++ rec 0 5 0 0 ++ rec 0 1 0 0 ++ nines 4)
     ∷ (currentEpoch ⇒ 0 ∷ 1 ∷ [])
     ∷ (faultCount ⇒ 0 ∷ 1 ∷ [])
     ∷ []
 
 -- CASE 3. "N 4, f 1: two accepted, no kind 7. The third makes it wanted for each proposer not Accepted or Complete."
-abbrev pub case-3 : List Row
+abbrev pub case-3 : Rows
 case-3 =
     (create (numbers 4 1 0 0 1 0 0 1 0 0) 80 ⇒ 0 ∷ [])
     ∷ (agreement 0 (yes 1 0 ∷ yes 5 0 ∷ out 1 ∷ []) ⇒ passes)
@@ -199,7 +151,7 @@ case-3 =
     ∷ []
 
 -- the same where several are left: N 7, f 2. The fifth makes it wanted for 5, Ongoing, and 6, HasValue, in rising order
-abbrev pub case-3-seven : List Row
+abbrev pub case-3-seven : Rows
 case-3-seven =
     (create (numbers 7 2 0 0 1 0 0 1 0 0) 137 ⇒ 0 ∷ [])
     ∷ (broadcast 6 (yes 1 0 ∷ yes 4 6 ∷ out 76 ∷ yes 6 6 ∷ []) ⇒ passes)
@@ -215,7 +167,7 @@ case-3-seven =
     ∷ []
 
 -- a fourth that is Complete with 0 is not voted on
-abbrev pub case-3-rejected : List Row
+abbrev pub case-3-rejected : Rows
 case-3-rejected =
     (create (numbers 4 1 0 0 1 0 0 1 0 0) 80 ⇒ 0 ∷ [])
     ∷ (agreement 3 (yes 1 0 ∷ yes 5 3 ∷ out 0 ∷ []) ⇒ passes)
@@ -226,7 +178,7 @@ case-3-rejected =
     ∷ []
 
 -- CASE 4. "Another subset message that leaves three accepted and the fourth Ongoing: kind 7 wanted again", also where it asks nothing else
-abbrev pub case-4 : List Row
+abbrev pub case-4 : Rows
 case-4 =
     (broadcast 0 (yes 4 0 ∷ []) ⇒ wanting)
     ∷ (broadcast 0 (yes 4 0 ∷ yes 7 3 ∷ []) ⇒ passes)
@@ -235,7 +187,7 @@ case-4 =
     ∷ []
 
 -- CASE 5. "That vote brings the fourth accepted: none after."
-abbrev pub case-5 : List Row
+abbrev pub case-5 : Rows
 case-5 =
     (broadcast 0 (yes 4 0 ∷ yes 7 3 ∷ out 1 ∷ []) ⇒ passes)
     ∷ (broadcast 0 (yes 4 0 ∷ yes 7 3 ∷ []) ⇒ unread)
@@ -243,7 +195,7 @@ case-5 =
     ∷ []
 
 -- voting at "N−f or more" is wrong: with N 7, f 2 one is left when a vote lifts the count above N−f. Its round goes on, and there is none after
-abbrev pub case-5-seven : List Row
+abbrev pub case-5-seven : Rows
 case-5-seven =
     (broadcast 0 (yes 4 0 ∷ yes 7 5 ∷ out 1 ∷ []) ⇒ wanting)
     ∷ (broadcast 0 (yes 4 0 ∷ yes 7 5 ∷ out 1 ∷ yes 7 6 ∷ []) ⇒ passes)
@@ -252,20 +204,20 @@ case-5-seven =
     ∷ []
 
 -- CASE 6. "8 handled, 9 fault 1, 4 empty step": the last two ask nothing
-abbrev pub case-6 : List Row
+abbrev pub case-6 : Rows
 case-6 =
     (create (numbers 4 1 3 0 1 0 5 1 0 0) 272 ⇒ 0 ∷ [])
-    ∷ (message 2 8 2 1 0 (answers (yes 1 0 ∷ yes 5 1 ∷ item 16 0 33 ∷ [])) (nines 12) ⇒ 0 ∷ rec 1 0 0 8 ++ rec 0 2 1 33 ++ nines 4)
-    ∷ (message 2 9 2 1 0 (answers []) (nines 12) ⇒ 0 ∷ rec 0 1 0 9 ++ rec 0 1 2 0 ++ nines 4)
-    ∷ (message 2 9 2 1 0 (answers (yes 1 0 ∷ [])) (nines 12) ⇒ 9 ∷ nines 12)
-    ∷ (message 2 4 2 1 0 (answers []) (nines 12) ⇒ 0 ∷ rec 0 0 0 4 ++ nines 8)
-    ∷ (message 2 4 2 1 0 (answers (yes 1 0 ∷ [])) (nines 12) ⇒ 9 ∷ nines 12)
+    ∷ (message 2 8 2 1 0 (table (yes 1 0 ∷ yes 5 1 ∷ item 16 0 33 ∷ [])) (nines 12) ⇒ 0 ∷ rec 1 0 0 8 ++ rec 0 2 1 33 ++ nines 4)
+    ∷ (message 2 9 2 1 0 (table []) (nines 12) ⇒ 0 ∷ rec 0 1 0 9 ++ rec 0 1 2 0 ++ nines 4)
+    ∷ (message 2 9 2 1 0 (table (yes 1 0 ∷ [])) (nines 12) ⇒ 9 ∷ nines 12)
+    ∷ (message 2 4 2 1 0 (table []) (nines 12) ⇒ 0 ∷ rec 0 0 0 4 ++ nines 8)
+    ∷ (message 2 4 2 1 0 (table (yes 1 0 ∷ [])) (nines 12) ⇒ 9 ∷ nines 12)
     ∷ (currentEpoch ⇒ 0 ∷ 5 ∷ [])
     ∷ (faultCount ⇒ 0 ∷ 1 ∷ [])
     ∷ []
 
 -- CASE 7. "f 1, observer, ciphertext set: one valid share combines nothing"
-abbrev pub case-7 : List Row
+abbrev pub case-7 : Rows
 case-7 =
     (create (numbers 4 1 0 4 0 0 0 0 0 0) 80 ⇒ 0 ∷ [])
     ∷ (agreement 0 (yes 1 0 ∷ yes 5 0 ∷ out 1 ∷ []) ⇒ passes)
@@ -276,7 +228,7 @@ case-7 =
     ∷ []
 
 -- "the second wants kind 12", whose handle is the plaintext
-abbrev pub case-7-second : List Row
+abbrev pub case-7-second : Rows
 case-7-second =
     (share 2 0 502 (yes 10 2 ∷ []) ⇒ wanting)
     ∷ (share 2 0 502 (yes 10 2 ∷ yes 12 900 ∷ []) ⇒ passes)
@@ -285,7 +237,7 @@ case-7-second =
     ∷ []
 
 -- CASE 8. "Second share of a sender: overwritten, fault 6, no combining."
-abbrev pub case-8 : List Row
+abbrev pub case-8 : Rows
 case-8 =
     -- the share of sender 1
     (wordAt 41 ⇒ 501 ∷ [])
@@ -301,7 +253,7 @@ case-8 =
     ∷ []
 
 -- CASE 9. "Skip to 2^62 passes; 2^62+1 gives 12."
-abbrev pub case-9 : List Row
+abbrev pub case-9 : Rows
 case-9 =
     (create (numbers 4 1 3 0 1 0 0 1 0 0) 272 ⇒ 0 ∷ [])
     ∷ (skip 4611686018427387905 ⇒ 12 ∷ [])
@@ -313,30 +265,30 @@ case-9 =
     ∷ []
 
 -- "a batch out of skip" is wrong: epoch 1 is ready when 0 is skipped, and its batch goes out with the next message
-abbrev pub case-9-batch : List Row
+abbrev pub case-9-batch : Rows
 case-9-batch =
     (create (numbers 1 0 1 0 1 0 0 1 0 0) 66 ⇒ 0 ∷ [])
-    ∷ (message 0 1 1 0 0 (answers (yes 1 0 ∷ yes 4 0 ∷ out 7 ∷ yes 6 0 ∷ out 1 ∷ [])) (nines 16) ⇒ 0 ∷ rec 0 0 0 1 ++ nines 12)
+    ∷ (message 0 1 1 0 0 (table (yes 1 0 ∷ yes 4 0 ∷ out 7 ∷ yes 6 0 ∷ out 1 ∷ [])) (nines 16) ⇒ 0 ∷ rec 0 0 0 1 ++ nines 12)
     ∷ (skip 1 ⇒ 0 ∷ [])
     ∷ (currentEpoch ⇒ 0 ∷ 1 ∷ [])
     ∷ (receivedProposals ⇒ 0 ∷ 1 ∷ [])
-    ∷ (message 0 2 2 0 0 (answers (yes 1 0 ∷ yes 5 0 ∷ yes 13 0 ∷ [])) (nines 16) ⇒ 0 ∷ rec 0 0 1 2 ++ rec 2 1 1 1 ++ rec 0 2 0 7 ++ nines 4)
+    ∷ (message 0 2 2 0 0 (table (yes 1 0 ∷ yes 5 0 ∷ yes 13 0 ∷ [])) (nines 16) ⇒ 0 ∷ rec 0 0 1 2 ++ rec 2 1 1 1 ++ rec 0 2 0 7 ++ nines 4)
     ∷ (currentEpoch ⇒ 0 ∷ 2 ∷ [])
     ∷ []
 
 -- CASE 10. "TickTock(1,1): epochs 0 and 1 encrypted." So the chain of case 1 lacks kind 8 in epoch 1
-abbrev pub case-10-on : List Row
+abbrev pub case-10-on : Rows
 case-10-on =
     (create (numbers 1 0 0 0 1 0 1 3 1 1) 41 ⇒ 0 ∷ [])
     ∷ (encrypts 0 ⇒ 1 ∷ [])
     ∷ (encrypts 1 ⇒ 1 ∷ [])
     ∷ (propose chain-1 (nines 16) ⇒ 8 ∷ nines 16)
-    ∷ (propose (answers (yes 1 0 ∷ yes 2 7 ∷ yes 3 0 ∷ out 7 ∷ yes 6 0 ∷ out 1 ∷ yes 8 0 ∷ yes 9 0 ∷ yes 11 501 ∷ yes 12 900 ∷ yes 13 0 ∷ [])) (nines 16)
+    ∷ (propose (table (yes 1 0 ∷ yes 2 7 ∷ yes 3 0 ∷ out 7 ∷ yes 6 0 ∷ out 1 ∷ yes 8 0 ∷ yes 9 0 ∷ yes 11 501 ∷ yes 12 900 ∷ yes 13 0 ∷ [])) (nines 16)
     ⇒ 0 ∷ rec 1 0 2 1 ++ rec 0 3 0 501 ++ rec 3 1 1 1 ++ rec 0 2 0 900)
     ∷ []
 
 -- "TickTock(1,2): 2 plain."
-abbrev pub case-10-off : List Row
+abbrev pub case-10-off : Rows
 case-10-off =
     (create (numbers 1 0 0 0 1 0 2 3 1 2) 41 ⇒ 0 ∷ [])
     ∷ (encrypts 0 ⇒ 1 ∷ [])
@@ -346,7 +298,7 @@ case-10-off =
     ∷ []
 
 -- CASE 11. "Case 1 with two step records gives 10, with three passes."
-abbrev pub case-11 : List Row
+abbrev pub case-11 : Rows
 case-11 =
     (alone ⇒ 0 ∷ [])
     ∷ (propose chain-1 (nines 8) ⇒ 10 ∷ nines 8)
@@ -357,7 +309,7 @@ case-11 =
     ∷ []
 
 -- CASE 12. "N 4, F 3: 272 words; 271 gives 2. f 2 gives 1."
-abbrev pub case-12 : List Row
+abbrev pub case-12 : Rows
 case-12 =
     (create (numbers 4 1 3 0 1 0 0 1 0 0) 272 ⇒ 0 ∷ [])
     ∷ (create (numbers 4 1 3 0 1 0 0 1 0 0) 271 ⇒ 2 ∷ [])
@@ -367,34 +319,34 @@ case-12 =
     ∷ []
 
 -- THE TABLE
-unfoldable pub bench : List Case
+unfoldable pub bench : Cases
 bench =
-    case 1 case-1
-    ∷ case 1 case-1-outputs
-    ∷ case 2 case-2
-    ∷ case 3 case-3
-    ∷ case 3 case-3-seven
-    ∷ case 3 case-3-rejected
-    ∷ caseAfter 4 case-3 case-4
-    ∷ caseAfter 5 case-3 case-5
-    ∷ caseAfter 5 case-3-seven case-5-seven
-    ∷ case 6 case-6
-    ∷ case 7 case-7
-    ∷ caseAfter 7 case-7 case-7-second
-    ∷ caseAfter 8 case-7 case-8
-    ∷ case 9 case-9
-    ∷ case 9 case-9-batch
-    ∷ case 10 case-10-on
-    ∷ case 10 case-10-off
-    ∷ case 11 case-11
-    ∷ case 12 case-12
+    case [] case-1
+    ∷ case [] case-1-outputs
+    ∷ case [] case-2
+    ∷ case [] case-3
+    ∷ case [] case-3-seven
+    ∷ case [] case-3-rejected
+    ∷ case (after case-3) case-4
+    ∷ case (after case-3) case-5
+    ∷ case (after case-3-seven) case-5-seven
+    ∷ case [] case-6
+    ∷ case [] case-7
+    ∷ case (after case-7) case-7-second
+    ∷ case (after case-7) case-8
+    ∷ case [] case-9
+    ∷ case [] case-9-batch
+    ∷ case [] case-10-on
+    ∷ case [] case-10-off
+    ∷ case [] case-11
+    ∷ case [] case-12
     ∷ []
 
 -- the definitions of the table itself
-unfoldable pub openedHere : Unit {0}
-unfolding opened apply stateAfter seenIn expectedIn AllHold bench
-openedHere = tt
+unfoldable pub tablesOpened : Unit {0}
+unfolding opened CaseTables.opened apply
+tablesOpened = tt
 
-pub bench-cases : AllHold bench
-unfolding openedHere
+pub bench-cases : AllHold apply bench
+unfolding tablesOpened bench
 bench-cases = (refl, (refl, (refl, (refl, (refl, (refl, (refl, (refl, (refl, (refl, (refl, (refl, (refl, (refl, (refl, (refl, (refl, (refl, (refl, tt)))))))))))))))))))

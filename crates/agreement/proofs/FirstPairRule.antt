@@ -1,10 +1,11 @@
--- The output of the worked pair of runs (Pair.antt) with its values, and its answers to kind 8, computed: what Rule.antt states of every run.
+-- The output of the worked pair of runs (FirstPairRuns.antt) with its values, and its answers to kind 8, computed: what specs/Rule.antt states of every run.
 use Prim.Native.Nat.{ℕ}
 use mathlib.Core.Path.{_≡_, refl}
 use mathlib.Core.List.{List, [], _∷_}
 use mathlib.Core.Bool.{cond, _&&_}
 use mathlib.Core.Option.{Option, some}
 use lib.ListN.{take}
+use Rattle.steps.proofs.CaseTables.{table}
 use Rattle.subset.specs.Rule.{isOver, settledFrom}
 use Rattle.epochwords.specs.Words.{loadDecryption}
 use Rattle.state.specs.State.{epochWords}
@@ -13,7 +14,7 @@ use Rattle.agreement.specs.Claim.{Made, historyOf, encryptedOf}
 use Rattle.agreement.specs.Outputs.{Paired, paired, pairsIn, pairsGiven, plaintextOf, timesAskedIn, isHandled}
 use Rattle.agreement.specs.Rule.{stateAfterAll, endOf, netIn, strategyIn}
 use Rattle.agreement.specs.Opened.{opened}
-use Rattle.agreement.specs.Pair.{table, hostA, hostB}
+use Rattle.agreement.proofs.FirstPairRuns.{hostA, hostB}
 
 -- THE BATCHES: for each the pairs of its entries, and those that its 13s and the history give
 unfoldable pub pairsOf : Made → List Handed → List (List Paired)

@@ -1,12 +1,13 @@
 -- A WORKED PAIR OF RUNS for demand 3 (Claim.antt): two hosts, two epochs, a batch of each epoch on both hosts. Here are the runs and what
--- is computed of them; proofs/Pair.antt proves that all premises of the claim hold of them, and computes its conclusions.
+-- is computed of them; FirstPairClaim.antt proves that all premises of the claim hold of them, and computes its conclusions.
 use Prim.Native.Nat.{ℕ}
 use mathlib.Core.Path.{_≡_, refl}
 use mathlib.Core.List.{List, [], _∷_, _++_}
 use mathlib.Core.Option.{Option, some}
 use lib.ListN.{length, replicate}
-use Rattle.steps.specs.Steps.{Item, item, firstAt, chainWords}
+use Rattle.steps.specs.Steps.{Item, item}
 use Rattle.steps.specs.Batches.{BatchEntry, Batch}
+use Rattle.steps.proofs.CaseTables.{table}
 use Rattle.state.specs.State.{stateLength, scratchLength}
 use Rattle.agreement.specs.History.{Call, propose, message, skip, Turn, Event, Handed, handed, unreadable, valueTaken, decisionTaken, readings}
 use Rattle.agreement.specs.Claim.{Made, turnsOf, historyOf, encryptedOf}
@@ -40,10 +41,6 @@ reads p = item 13 1 p ∷ []
 
 abbrev pub readsNot : ℕ → List Item
 readsNot p = item 13 0 p ∷ []
-
--- the table of these answers, one record after another
-unfoldable pub table : List Item → List ℕ
-table xs = firstAt 1 xs ∷ 0 ∷ 0 ∷ 0 ∷ chainWords 1 xs
 
 -- CALLS, with 16 records for the step, and scratch for either host. The words that are lent may be any
 abbrev pub proposing : List Item → Call

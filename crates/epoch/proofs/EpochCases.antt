@@ -1,6 +1,6 @@
--- Cases of an epoch, as one table under one statement, `epoch-cases`, which is proved by computing the definitions.
+-- Cases of an epoch, as one table under one statement, `epoch-cases`, which is proved by computing the definitions. Assumes nothing.
 use Prim.Native.Nat.{ℕ, _-_, _/_}
-use mathlib.Core.Path.{_≡_, refl}
+use mathlib.Core.Path.{refl}
 use mathlib.Core.List.{List, [], _∷_}
 use mathlib.Core.Bool.{Bool, true, false, cond}
 use lib.ListN.{length, getD}
@@ -9,10 +9,12 @@ use Rattle.steps.specs.declared.reader.Content.the-variants.{Broadcast, Agreeme
 use Rattle.steps.specs.declared.network_info.NetworkInfo.{NetworkInfo}
 use Rattle.steps.specs.Steps.{Entry, message, fault, output, Item}
 use Rattle.steps.specs.Runs.{Run, numberOf}
+use Rattle.steps.proofs.CaseTables
+use Rattle.steps.proofs.CaseTables.{Row, _⇒_, Case, case, Done, done, AllHold, yes, no, out, answers}
 use Rattle.subset.specs.Words.{acceptedOf, countOf, proposalAt}
-use Rattle.subset.specs.Cases.{answers, yes, no, out}
 use Rattle.epochwords.specs.declared.SubsetHandlingStrategy.{SubsetHandlingStrategy}
 use Rattle.epochwords.specs.declared.SubsetHandlingStrategy.the-variants.{Incremental, AllAtEnd}
+use Rattle.epoch.specs.declared.MessageContent.{MessageContent}
 use Rattle.epoch.specs.declared.MessageContent.the-variants.{Subset, DecryptionShare}
 use Rattle.epochwords.specs.Words.{decryptionAt}
 use Rattle.epoch.specs.Epoch.{newEpoch, receivedProposals, handleMessageContent}
@@ -34,70 +36,47 @@ pub data Seen : Type 0 where
   ran : ℕ → List Entry → ℕ → Seen
   number : ℕ → Seen
 
-pub record Row : Type 0 where
-  pub op : Op
-  pub expected : Seen
-
-infix 4 _⇒_
-abbrev pub _⇒_ : Op → Seen → Row
-op ⇒ expected = record { op = op; expected = expected }
-
--- a case: N (with f = (N−1)/3), strategy, whether the epoch is encrypted, whether node 0 sees it, who has its key, or an observer, and its rows
-pub record Case : Type 0 where
+-- an epoch: N (with f = (N−1)/3), strategy, whether it is encrypted, whether node 0 sees it, who has its key, or an observer; and its words
+pub record Epoch : Type 0 where
   pub nodes : ℕ
   pub strategy : SubsetHandlingStrategy
   pub encrypted : Bool
   pub validator : Bool
-  pub rows : List Row
+  pub words : List ℕ
 
-abbrev pub case : ℕ → SubsetHandlingStrategy → Bool → Bool → List Row → Case
-case n strategy encrypted validator rows =
-    record { nodes = n; strategy = strategy; encrypted = encrypted; validator = validator; rows = rows }
+abbrev pub new : ℕ → SubsetHandlingStrategy → Bool → Bool → Epoch
+new n strategy encrypted validator =
+    record { nodes = n; strategy = strategy; encrypted = encrypted; validator = validator; words = newEpoch n }
 
-pub record Done : Type 0 where
-  pub state : List ℕ
-  pub seen : Seen
+abbrev pub withWords : Epoch → List ℕ → Epoch
+withWords e w = record { nodes = e .nodes; strategy = e .strategy; encrypted = e .encrypted; validator = e .validator; words = w }
 
-module _ (c : Case) where
-  abbrev pub net : NetworkInfo
-  net = record { «num_nodes» = c .nodes; «num_faulty» = (c .nodes - 1) / 3; «our_id» = cond (c .validator) 0 (c .nodes); «has_key» = c .validator }
+abbrev pub net : Epoch → NetworkInfo
+net e = record { «num_nodes» = e .nodes; «num_faulty» = (e .nodes - 1) / 3; «our_id» = cond (e .validator) 0 (e .nodes); «has_key» = e .validator }
 
-  -- a refusal leaves the epoch as it was, since the engine does
-  unfoldable pub ranOn : List ℕ → Run (List ℕ) (Unit {0}) → Done
-  ranOn w r =
-      record {
-        state = cond (eqb (numberOf (r .verdict)) 8) w (r .state);
-        seen = ran (numberOf (r .verdict)) (r .log) (length (r .tape .rest));
-      }
+-- a refusal leaves the epoch as it was, since the engine does
+unfoldable pub ranOn : Epoch → Run (List ℕ) (Unit {0}) → Done Epoch Seen
+ranOn e r =
+    done (withWords e (cond (eqb (numberOf (r .verdict)) 8) (e .words) (r .state))) (ran (numberOf (r .verdict)) (r .log) (length (r .tape .rest)))
 
-  abbrev pub shown : List ℕ → ℕ → Done
-  shown w x = record { state = w; seen = number x }
+-- a message, from its sender for a proposer
+abbrev pub told : Epoch → ℕ → ℕ → MessageContent → List Item → Done Epoch Seen
+told e sender p content rs = ranOn e (handleMessageContent (net e) (e .strategy) (e .encrypted) sender p content (e .words) (answers rs))
 
-  unfoldable pub apply : Op → List ℕ → Done
-  apply (broadcast p rs) w = ranOn w (handleMessageContent net (c .strategy) (c .encrypted) 0 p (Subset Broadcast) w (answers rs))
-  apply (agreement p rs) w = ranOn w (handleMessageContent net (c .strategy) (c .encrypted) 0 p (Subset Agreement) w (answers rs))
-  apply (share sender p handle rs) w = ranOn w (handleMessageContent net (c .strategy) (c .encrypted) sender p (DecryptionShare handle) w (answers rs))
-  apply (batch rs) w = ranOn w (outputBatch (c .nodes) 5 w (answers rs))
-  apply ready w = shown w (cond (isReady (c .nodes) w) 1 0)
-  apply accepted w = shown w (acceptedOf w)
-  apply received w = shown w (receivedProposals (c .nodes) w)
-  apply kept w = shown w (countOf w)
-  apply (proposal p) w = shown w (getD w (proposalAt (c .nodes) p) 0)
-  apply (decryption p) w = shown w (getD w (decryptionAt (c .nodes) p) 0)
+unfoldable pub apply : Op → Epoch → Done Epoch Seen
+apply (broadcast p rs) e = told e 0 p (Subset Broadcast) rs
+apply (agreement p rs) e = told e 0 p (Subset Agreement) rs
+apply (share sender p handle rs) e = told e sender p (DecryptionShare handle) rs
+apply (batch rs) e = ranOn e (outputBatch (e .nodes) 5 (e .words) (answers rs))
+apply ready e = done e (number (cond (isReady (e .nodes) (e .words)) 1 0))
+apply accepted e = done e (number (acceptedOf (e .words)))
+apply received e = done e (number (receivedProposals (e .nodes) (e .words)))
+apply kept e = done e (number (countOf (e .words)))
+apply (proposal p) e = done e (number (getD (e .words) (proposalAt (e .nodes) p) 0))
+apply (decryption p) e = done e (number (getD (e .words) (decryptionAt (e .nodes) p) 0))
 
-  -- each operation is applied to the epoch as the one before left it
-  unfoldable pub seenIn : List Row → List ℕ → List Seen
-  seenIn [] w = []
-  seenIn (r ∷ rs) w = let d = apply (r .op) w in d .seen ∷ seenIn rs (d .state)
-
-unfoldable pub expectedIn : List Row → List Seen
-expectedIn [] = []
-expectedIn (r ∷ rs) = r .expected ∷ expectedIn rs
-
--- THE STATEMENT: in every case, which begins with a new epoch, what is seen is what the rows say
-unfoldable pub AllHold : List Case → Type 0
-AllHold [] = Unit {0}
-AllHold (c ∷ cs) = (seenIn c (c .rows) (newEpoch (c .nodes)) ≡ expectedIn (c .rows)) × AllHold cs
+abbrev pub Rows : Type 0
+Rows = List (Row Op Seen)
 
 -- a call without a failure or an entry, all of whose answers are read; a refusal with m answers unread
 abbrev pub passes : Seen
@@ -107,7 +86,7 @@ abbrev pub wanting : ℕ → Seen
 wanting m = ran 8 [] m
 
 -- AllAtEnd: contributions arrive as 3, 2, 1 and are kept until Done. 13 is asked by rising proposer, and the entries stand so
-abbrev pub falling : List Row
+abbrev pub falling : Rows
 falling =
     (broadcast 3 (yes 4 3 ∷ out 73 ∷ yes 6 3 ∷ out 1 ∷ []) ⇒ passes)
     ∷ (broadcast 2 (yes 4 2 ∷ out 72 ∷ yes 6 2 ∷ out 1 ∷ []) ⇒ passes)
@@ -130,7 +109,7 @@ falling =
     ∷ []
 
 -- the same, encrypted: at Done they are handled in the order of their arrival. A share before the ciphertext is stored unchecked, then checked
-abbrev pub falling-encrypted : List Row
+abbrev pub falling-encrypted : Rows
 falling-encrypted =
     (share 1 2 621 [] ⇒ passes)
     ∷ (broadcast 3 (yes 4 3 ∷ out 73 ∷ yes 6 3 ∷ out 1 ∷ []) ⇒ passes)
@@ -143,7 +122,7 @@ falling-encrypted =
     ∷ []
 
 -- Incremental handles a contribution at once
-abbrev pub at-once : List Row
+abbrev pub at-once : Rows
 at-once =
     (broadcast 3 (yes 4 3 ∷ out 73 ∷ yes 6 3 ∷ out 1 ∷ []) ⇒ wanting 0)
     ∷ (broadcast 3 (yes 4 3 ∷ out 73 ∷ yes 6 3 ∷ out 1 ∷ yes 8 3 ∷ yes 9 3 ∷ []) ⇒ passes)
@@ -151,7 +130,7 @@ at-once =
     ∷ []
 
 -- "At Done, shares for non-accepted proposers become fault 2, by proposer then sender": 5 from 2 and 4, 6 from 0. After it, at once
-abbrev pub unexpected : List Row
+abbrev pub unexpected : Rows
 unexpected =
     (share 0 6 601 [] ⇒ passes)
     ∷ (share 4 5 602 [] ⇒ passes)
@@ -171,7 +150,7 @@ unexpected =
     ∷ []
 
 -- "A ciphertext that does not read or verify gives fault 3 or 4; the proposer counts as accepted and its epoch waits."
-abbrev pub not-read : List Row
+abbrev pub not-read : Rows
 not-read =
     (broadcast 0 (yes 4 0 ∷ out 77 ∷ yes 6 0 ∷ out 1 ∷ no 8 0 ∷ []) ⇒ ran 0 (fault 3 0 0 ∷ []) 0)
     ∷ (accepted ⇒ number 1)
@@ -181,7 +160,7 @@ not-read =
     ∷ []
 
 -- the same of one that reads and does not verify
-abbrev pub not-verified : List Row
+abbrev pub not-verified : Rows
 not-verified =
     (broadcast 0 (yes 4 0 ∷ out 77 ∷ yes 6 0 ∷ out 1 ∷ yes 8 0 ∷ no 9 0 ∷ []) ⇒ ran 0 (fault 4 0 0 ∷ []) 0)
     ∷ (accepted ⇒ number 1)
@@ -194,7 +173,7 @@ not-verified =
     ∷ []
 
 -- a validator with its key sends its own share, and one share is more than f = 0
-abbrev pub own-share : List Row
+abbrev pub own-share : Rows
 own-share =
     (broadcast 0 (yes 4 0 ∷ out 77 ∷ yes 6 0 ∷ out 1 ∷ yes 8 0 ∷ yes 9 0 ∷ yes 11 601 ∷ yes 12 900 ∷ []) ⇒ ran 0 (message 3 0 601 ∷ []) 0)
     ∷ (ready ⇒ number 1)
@@ -202,7 +181,7 @@ own-share =
     ∷ []
 
 -- a failed call loses its contributions: 2 is never accepted
-abbrev pub failed-call : List Row
+abbrev pub failed-call : Rows
 failed-call =
     (agreement 0 (yes 5 0 ∷ out 1 ∷ []) ⇒ passes)
     ∷ (agreement 1 (yes 5 1 ∷ out 1 ∷ []) ⇒ passes)
@@ -217,7 +196,7 @@ failed-call =
     ∷ []
 
 -- and AllAtEnd keeps those of the calls before it
-abbrev pub failed-call-at-end : List Row
+abbrev pub failed-call-at-end : Rows
 failed-call-at-end =
     (broadcast 0 (yes 4 0 ∷ out 70 ∷ yes 6 0 ∷ out 1 ∷ []) ⇒ passes)
     ∷ (agreement 1 (yes 5 1 ∷ out 1 ∷ []) ⇒ passes)
@@ -229,7 +208,7 @@ failed-call-at-end =
     ∷ []
 
 -- a failure at Done: its contributions are lost too, the subset has decided, and the epoch stands
-abbrev pub failed-at-done : List Row
+abbrev pub failed-at-done : Rows
 failed-at-done =
     (broadcast 0 (yes 4 0 ∷ out 77 ∷ yes 6 0 ∷ out 1 ∷ yes 8 0 ∷ yes 9 0 ∷ yes 11 601 ∷ no 12 0 ∷ []) ⇒ ran 24 (message 3 0 601 ∷ []) 0)
     ∷ (accepted ⇒ number 0)
@@ -239,20 +218,20 @@ failed-at-done =
     ∷ []
 
 -- THE TABLE
-unfoldable pub cases : List Case
+unfoldable pub cases : List (Case Op Epoch Seen)
 cases =
-    case 4 AllAtEnd false true falling
-    ∷ case 4 AllAtEnd true false falling-encrypted
-    ∷ case 4 Incremental true false at-once
-    ∷ case 7 Incremental false false unexpected
-    ∷ case 1 Incremental true false not-read
-    ∷ case 1 Incremental true false not-verified
-    ∷ case 1 Incremental true true own-share
-    ∷ case 4 Incremental false true failed-call
-    ∷ case 4 AllAtEnd false true failed-call-at-end
-    ∷ case 1 AllAtEnd true true failed-at-done
+    case (new 4 AllAtEnd false true) falling
+    ∷ case (new 4 AllAtEnd true false) falling-encrypted
+    ∷ case (new 4 Incremental true false) at-once
+    ∷ case (new 7 Incremental false false) unexpected
+    ∷ case (new 1 Incremental true false) not-read
+    ∷ case (new 1 Incremental true false) not-verified
+    ∷ case (new 1 Incremental true true) own-share
+    ∷ case (new 4 Incremental false true) failed-call
+    ∷ case (new 4 AllAtEnd false true) failed-call-at-end
+    ∷ case (new 1 AllAtEnd true true) failed-at-done
     ∷ []
 
-pub epoch-cases : AllHold cases
-unfolding opened numberOf ranOn apply seenIn expectedIn AllHold cases
+pub epoch-cases : AllHold apply cases
+unfolding opened CaseTables.opened ranOn apply cases
 epoch-cases = (refl, (refl, (refl, (refl, (refl, (refl, (refl, (refl, (refl, (refl, tt))))))))))

@@ -1,4 +1,4 @@
--- The worked pair of specs/SecondPair.antt: all premises of demand 3's claim hold of it (`sound-c`, `sound-d`, `same`, `premises`), and so do
+-- The worked pair of SecondPairRuns.antt: all premises of demand 3's claim hold of it (`sound-c`, `sound-d`, `same`, `premises`), and so do
 -- all its conclusions (`conclusions`). The tests of Tests.antt are computed.
 use Prim.Native.Nat.{ℕ, _+_, _*_}
 use mathlib.Core.Path.{_≡_, refl}
@@ -10,7 +10,7 @@ use Rattle.engine.specs.Create.{createReply}
 use Rattle.agreement.specs.History.{readings}
 use Rattle.agreement.specs.Claim.{One, Two, Premises, Conclusions, turnsOf, historyOf, encryptedOf, Sound, SameNetwork, TwoRuns}
 use Rattle.agreement.specs.Opened.{opened}
-use Rattle.agreement.specs.SecondPair.{told, eventsOf, linesC, linesD, hostC, hostD, replies-c, replies-d, history-c, history-d}
+use Rattle.agreement.proofs.SecondPairRuns.{told, eventsOf, linesC, linesD, hostC, hostD, replies-c, replies-d, history-c, history-d}
 use Rattle.agreement.proofs.Tests.{none-fails, took-alike, read-alike, is-one, is-two, tests}
 
 -- What both hosts are told: proposer p's value in epoch e is 10 × e + p, but 21 for proposer 3 in epoch 2; proposer 4 − e is decided 0, the

@@ -1,7 +1,7 @@
 -- A SECOND WORKED PAIR OF RUNS for demand 3 (Claim.antt): a validator and an observer among N 4 with f 1. Here are the runs and what is
--- computed of them; proofs/SecondPair.antt proves that all premises of the claim hold of them, and computes its conclusions.
+-- computed of them; SecondPairClaim.antt proves that all premises of the claim hold of them, and computes its conclusions.
 --
--- What this pair has and the first one (Pair.antt) has not: one decision 0 in each epoch; share messages, some before the ciphertext, whose
+-- What this pair has and the first one (FirstPairRuns.antt) has not: one decision 0 in each epoch; share messages, some before the ciphertext, whose
 -- shares combine; an observer; two proposers with the same value; a skip that moves; an epoch that only one host hands out, on each side.
 use Prim.Native.Nat.{ℕ, _+_, max}
 use mathlib.Core.Path.{_≡_, refl}
@@ -12,10 +12,11 @@ use lib.ListN.{length, replicate}
 use Rattle.steps.specs.Steps.{Item, item, linkAfter}
 use Rattle.steps.specs.Answers.{Rec}
 use Rattle.steps.specs.Batches.{Batch}
+use Rattle.steps.proofs.CaseTables.{table}
 use Rattle.state.specs.State.{stateLength, scratchLength}
 use Rattle.agreement.specs.History.{Call, propose, message, skip, Event, handed, valueTaken, decisionTaken, readings}
 use Rattle.agreement.specs.Claim.{Made, turnsOf, historyOf, encryptedOf}
-use Rattle.agreement.specs.Pair.{built, serialised, broadcast, delivered, voted, reads, readsNot, table, repliesIn, Seen, seenIn, entry}
+use Rattle.agreement.proofs.FirstPairRuns.{built, serialised, broadcast, delivered, voted, reads, readsNot, repliesIn, Seen, seenIn, entry}
 use Rattle.agreement.specs.Opened.{opened}
 
 -- ANSWERS, besides those of the first pair. Vote 0 for p decides 0

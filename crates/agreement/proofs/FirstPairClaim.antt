@@ -1,4 +1,4 @@
--- The worked pair of specs/Pair.antt: all premises of demand 3's claim hold of it (`sound-a`, `sound-b`, `same`, `premises`), and so do all
+-- The worked pair of FirstPairRuns.antt: all premises of demand 3's claim hold of it (`sound-a`, `sound-b`, `same`, `premises`), and so do all
 -- its conclusions (`conclusions`). The tests of Tests.antt are computed.
 use Prim.Native.Nat.{ℕ, _+_, _*_}
 use mathlib.Core.Path.{refl}
@@ -6,10 +6,11 @@ use mathlib.Core.List.{_++_}
 use mathlib.Core.Bool.{cond, _&&_}
 use lib.Dec.{eqb}
 use Rattle.steps.specs.Taken.{ofValue, ofDecision}
+use Rattle.steps.proofs.CaseTables.{table}
 use Rattle.agreement.specs.History.{readings}
 use Rattle.agreement.specs.Claim.{One, Two, Premises, Conclusions, historyOf, encryptedOf, Sound, SameNetwork, TwoRuns}
 use Rattle.agreement.specs.Opened.{opened}
-use Rattle.agreement.specs.Pair.{table, hostA, hostB}
+use Rattle.agreement.proofs.FirstPairRuns.{hostA, hostB}
 use Rattle.agreement.proofs.Tests.{took-alike, read-alike, is-one, is-two, tests}
 
 -- THE PAIR. What both hosts are told: proposer p's value in epoch e is 11 + 2 × e + p and is decided 1; every value reads and verifies;
