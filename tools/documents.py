@@ -3,7 +3,7 @@
 
 usage: tools/documents.py          (from anywhere; Python 3.9 or newer, no packages)
 
-    `steps/Table: tableOk, handle`        definitions or theorems of a file of specs/ or proofs/ of a crate; also `steps/proofs/Runs: …`
+    `steps/Table: tableOk, handle`        definitions or theorems of a file of specs/ or proofs/ of a crate; also `steps/proofs/RunLaws: …`
     `Settled: propose-settled`            the same where the crate is plain from the text: a file of that name in any crate
     `engine: create_f_third`              must-fail edits of a crate
     `answers::table_ok, is_handle` functions, types or constants of the code

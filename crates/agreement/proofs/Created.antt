@@ -11,15 +11,15 @@ use lib.Seq.{getD-append-add, getD-take, getD-drop}
 use borrow.Author.Tests.{eqb-true, eq-eqb, leb-true, leb-false, le-leb, lt-leb}
 use Rattle.steps.specs.Numbers.{lastEpoch}
 use Rattle.steps.specs.Table.{within}
-use Rattle.steps.proofs.Laws.{and-true}
+use Rattle.steps.proofs.ChainLaws.{and-true}
 use Rattle.steps.proofs.Ranges.{and-both, zeros-at}
 use Rattle.subset.specs.Words.{epochLength, countAt}
 use Rattle.subset.proofs.Ranges.{limit-some}
-use Rattle.epochwords.proofs.RangesWords.{all-every}
+use Rattle.epochwords.proofs.LimitsOfWords.{all-every}
 use Rattle.state.specs.Schedule.{scheduleOk, usedFirst, usedSecond}
 use Rattle.state.specs.State.{headerLength, inputAt, vacantAt, epochsAt, stateLength, allHold, headerTests, headerInRange, epochWords, placeOf, stateOk}
 use Rattle.engine.specs.Create.{Numbers, numberTests, numbersOk, createdHeader, created, createReply, createState}
-use Rattle.agreement.specs.Rule.{CreateInRange}
+use Rattle.agreement.specs.Demand2.{CreateInRange}
 use Rattle.state.proofs.Bools.{test-holds}
 use Rattle.state.proofs.Window.{Shaped, header-first, words-long, place-is}
 use Rattle.state.proofs.RangesState.{ok-by}

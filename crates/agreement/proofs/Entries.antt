@@ -15,12 +15,12 @@ use Rattle.steps.specs.Taken.{isTrue}
 use Rattle.subset.specs.Words.{statusAt}
 use Rattle.epochwords.specs.declared.SubsetHandlingStrategy.{SubsetHandlingStrategy}
 use Rattle.epochwords.specs.Words.{isComplete, isAccepted, DecryptionState, missing, ongoing, complete, loadDecryption}
-use Rattle.epoch.proofs.Handled.{TextOk}
-use Rattle.epoch.proofs.Holds.{Going, Done, Holds}
+use Rattle.epoch.proofs.EntryInvariant.{TextOk}
+use Rattle.epoch.proofs.Invariant.{Going, Done, Holds}
 use Rattle.agreement.specs.History.{Event, decisionTaken, plaintext, Handed, namesOf}
 use Rattle.agreement.specs.Outputs.{paired, pairsIn, pairsRead, pairsGiven, plaintextOf}
 use Rattle.agreement.proofs.OneBatch.{entriesOf}
-use Rattle.agreement.proofs.Handout.{InAll, of-names, is-true}
+use Rattle.agreement.proofs.BatchesDealt.{InAll, of-names, is-true}
 use Rattle.agreement.proofs.Invariant.{Slot, vacant, lives}
 
 -- THE ENTRIES that 13s give, where `text` is the plaintext of every proposer that they name

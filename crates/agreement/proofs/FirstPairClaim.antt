@@ -8,7 +8,7 @@ use lib.Dec.{eqb}
 use Rattle.steps.specs.Taken.{ofValue, ofDecision}
 use Rattle.steps.proofs.CaseTables.{table}
 use Rattle.agreement.specs.History.{readings}
-use Rattle.agreement.specs.Claim.{One, Two, Premises, Conclusions, historyOf, encryptedOf, Sound, SameNetwork, TwoRuns}
+use Rattle.agreement.specs.Demand3.{One, Two, Premises, Conclusions, historyOf, encryptedOf, Sound, SameNetwork, TwoRuns}
 use Rattle.agreement.specs.Opened.{opened}
 use Rattle.agreement.proofs.FirstPairRuns.{hostA, hostB}
 use Rattle.agreement.proofs.Tests.{took-alike, read-alike, is-one, is-two, tests}

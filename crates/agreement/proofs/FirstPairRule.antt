@@ -1,4 +1,4 @@
--- The output of the worked pair of runs (FirstPairRuns.antt) with its values, and its answers to kind 8, computed: what specs/Rule.antt states of every run.
+-- The output of the worked pair of runs (FirstPairRuns.antt) with its values, and its answers to kind 8, computed: what specs/Demand2.antt states of every run.
 use Prim.Native.Nat.{ℕ}
 use mathlib.Core.Path.{_≡_, refl}
 use mathlib.Core.List.{List, [], _∷_}
@@ -10,9 +10,9 @@ use Rattle.subset.specs.Rule.{isOver, settledFrom}
 use Rattle.epochwords.specs.Words.{loadDecryption}
 use Rattle.state.specs.State.{epochWords}
 use Rattle.agreement.specs.History.{Handed, handed, valueTaken, decisionTaken}
-use Rattle.agreement.specs.Claim.{Made, historyOf, encryptedOf}
+use Rattle.agreement.specs.Demand3.{Made, historyOf, encryptedOf}
 use Rattle.agreement.specs.Outputs.{Paired, paired, pairsIn, pairsGiven, plaintextOf, timesAskedIn, isHandled}
-use Rattle.agreement.specs.Rule.{stateAfterAll, endOf, netIn, strategyIn}
+use Rattle.agreement.specs.Demand2.{stateAfterAll, endOf, netIn, strategyIn}
 use Rattle.agreement.specs.Opened.{opened}
 use Rattle.agreement.proofs.FirstPairRuns.{hostA, hostB}
 

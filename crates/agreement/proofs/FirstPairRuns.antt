@@ -1,4 +1,4 @@
--- A WORKED PAIR OF RUNS for demand 3 (Claim.antt): two hosts, two epochs, a batch of each epoch on both hosts. Here are the runs and what
+-- A WORKED PAIR OF RUNS for demand 3 (Demand3.antt): two hosts, two epochs, a batch of each epoch on both hosts. Here are the runs and what
 -- is computed of them; FirstPairClaim.antt proves that all premises of the claim hold of them, and computes its conclusions.
 use Prim.Native.Nat.{ℕ}
 use mathlib.Core.Path.{_≡_, refl}
@@ -10,7 +10,7 @@ use Rattle.steps.specs.Batches.{BatchEntry, Batch}
 use Rattle.steps.proofs.CaseTables.{table}
 use Rattle.state.specs.State.{stateLength, scratchLength}
 use Rattle.agreement.specs.History.{Call, propose, message, skip, Turn, Event, Handed, handed, unreadable, valueTaken, decisionTaken, readings}
-use Rattle.agreement.specs.Claim.{Made, turnsOf, historyOf, encryptedOf}
+use Rattle.agreement.specs.Demand3.{Made, turnsOf, historyOf, encryptedOf}
 use Rattle.agreement.specs.Opened.{opened}
 
 -- ANSWERS, each as its kind, a and b

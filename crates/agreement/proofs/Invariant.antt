@@ -14,15 +14,15 @@ use Rattle.steps.proofs.Ranges.{zeros-at}
 use Rattle.subset.specs.Words.{epochLength}
 use Rattle.epochwords.specs.declared.SubsetHandlingStrategy.{SubsetHandlingStrategy}
 use Rattle.epochwords.specs.Words.{isVacant}
-use Rattle.epoch.proofs.Told.{nothing}
-use Rattle.epoch.proofs.Batches.{Alive}
+use Rattle.epoch.proofs.Interface.{nothing}
+use Rattle.epoch.proofs.Occupied.{Alive}
 use Rattle.state.specs.State.{headerLength, epochAt, nodes, ahead, currentEpoch, netOf, strategyOf, encryptedIn, epochWords, withEpoch}
 use Rattle.work.specs.HoneyBadger.{updateEpoch}
 use Rattle.rings.proofs.Places.{same-place}
 use Rattle.state.proofs.Window as window
 use Rattle.state.proofs.Window.{Shaped, with-head, with-shaped, with-same, with-other, set-shaped, set-words}
 use Rattle.work.proofs.Updates.{update-shaped, update-head, update-current, update-kept, update-next}
-use Rattle.agreement.proofs.Handout.{Tk}
+use Rattle.agreement.proofs.BatchesDealt.{Tk}
 
 -- a place that was cleared
 pub zeros-vacant : (n : ℕ) → isVacant (replicate (epochLength n) 0) ≡ true

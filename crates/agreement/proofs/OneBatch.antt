@@ -13,11 +13,11 @@ use Rattle.steps.specs.Steps.{Entry, fault, output, Item, item, faults, outputs
 use Rattle.steps.specs.Runs.{going, ends, before}
 use Rattle.steps.specs.Taken.{thirteensIn}
 use Rattle.steps.specs.Bits.{hasBit, withBit, countBits}
-use Rattle.steps.proofs.Read13.{Gives, gives-map, gives-cond, gives-about, gives-onward, Neither, neither, neither-then, neither-13, thirteens-13, outputs-append, faults-append}
+use Rattle.steps.proofs.GivenWithLog.{Gives, gives-map, gives-cond, gives-about, gives-onward, Neither, neither, neither-then, neither-13, thirteens-13, outputs-append, faults-append}
 use Rattle.subset.specs.Words.{recordLength}
 use Rattle.epochwords.specs.Words.{plaintextAt}
 use Rattle.epochwords.specs.Batch.{isRead, readAt, readFrom, entriesFrom, outputBatchIn, outputBatch}
-use Rattle.epoch.proofs.Told.{fivesAmong}
+use Rattle.epoch.proofs.Interface.{fivesAmong}
 use Rattle.agreement.specs.History.{namesFrom, namesOf, unreadableIn}
 use Rattle.steps.specs.Batches.{BatchEntry as Shown}
 

@@ -16,35 +16,35 @@ use Rattle.steps.specs.Table.{within}
 use Rattle.steps.specs.Steps.{Entry, fault, item, faults, outputs}
 use Rattle.steps.specs.Runs.{Verdict, going, refused, failed, Run, ends, onward, inside}
 use Rattle.steps.specs.Taken.{orElse, isThere, isTrue, firstTaken, ofValue, ofDecision, firstDecrypted, thirteensIn}
-use Rattle.steps.proofs.Laws.{and-true}
-use Rattle.steps.proofs.Chains.{Good}
-use Rattle.steps.proofs.Read13.{GivesAs, Gives, gives-map, gives-cond, gives-ask, gives-onward, gives-inside, Neither, neither, neither-then, neither-1, thirteens-1, good-tail, outputs-append, faults-append}
+use Rattle.steps.proofs.ChainLaws.{and-true}
+use Rattle.steps.proofs.TakenFromChain.{Good}
+use Rattle.steps.proofs.GivenWithLog.{GivesAs, Gives, gives-map, gives-cond, gives-ask, gives-onward, gives-inside, Neither, neither, neither-then, neither-1, thirteens-1, good-tail, outputs-append, faults-append}
 use Rattle.subset.specs.Words.{recordLength, epochLength, statusAt}
-use Rattle.steps.proofs.After.{AfterAs, After}
-use Rattle.subset.proofs.Votes.{and-no, and-yes, untold-same, untold-neither, Voted, voted-still, voted-after, voted-before}
+use Rattle.steps.proofs.AfterRun.{AfterwardsAs, Afterwards}
+use Rattle.subset.proofs.VotesAsked.{and-no, and-yes, untold-same, untold-neither, Voted, voted-still, voted-after, voted-before}
 use Rattle.epochwords.specs.declared.SubsetHandlingStrategy.{SubsetHandlingStrategy}
 use Rattle.epoch.specs.declared.MessageContent.{MessageContent}
 use Rattle.epochwords.specs.Words.{isVacant, isComplete}
 use Rattle.epoch.specs.Epoch.{newEpoch, propose as proposeInEpoch, handleMessageContent}
 use Rattle.epochwords.specs.Batch.{isReady, decryptedFrom, isReadyIn, isRead, outputBatch}
-use Rattle.epoch.proofs.Told.{nothing, fivesAmong, Quiet, shareOf, Told, Ready, EpochLaws}
-use Rattle.epoch.proofs.Batches.{Alive, alive-new, alive-propose, alive-message}
+use Rattle.epoch.proofs.Interface.{nothing, fivesAmong, Quiet, shareOf, CallTold, Ready, EpochLaws}
+use Rattle.epoch.proofs.Occupied.{Alive, alive-new, alive-propose, alive-message}
 use Rattle.state.specs.State.{nodes, faulty, ahead, currentEpoch, inputAt, netOf, strategyOf, encryptedIn, epochWords, withEpoch}
 use Rattle.work.specs.HoneyBadger.{updateEpoch, epochStateMut, inEpoch, tryOutputBatches, outputBatches, propose, handleMessage}
 use Rattle.steps.specs.Batches.{Batch}
 use Rattle.agreement.specs.History.{unreadableIn}
 use Rattle.state.proofs.Window.{words-long, with-same}
 use Rattle.agreement.proofs.OneBatch.{entriesOf, itemsOf, textIn, fives-append, Put, batch-put}
-use Rattle.agreement.proofs.Shown.{entriesAmong, batchesAmong, batch-first}
-use Rattle.agreement.proofs.Handout.{Tk, Hand, Dealt, no-batch, one-batch, names-same}
+use Rattle.agreement.proofs.StepAsRead.{entriesAmong, batchesAmong, batch-first}
+use Rattle.agreement.proofs.BatchesDealt.{Tk, Hand, Dealt, no-batch, one-batch, names-same}
 use Rattle.agreement.proofs.Invariant.{Slot, vacant, lives, Sim, net-same, strategy-same, encrypted-same, sim-set, sim-with, sim-update}
 
 -- what a run gives, from what holds after it
-pub gives-after : {S A : Type 0} (r : Run S A) (P : A → S → Tape → Type 0) (Q : A → S → Tape → List Entry → Type 0) → After r P
+pub gives-after : {S A : Type 0} (r : Run S A) (P : A → S → Tape → Type 0) (Q : A → S → Tape → List Entry → Type 0) → Afterwards r P
     → ((a : A) (s : S) (p : Tape) → s ≡ r .state → P a s p → Q a s p (r .log)) → Gives r Q
 gives-after {S} {A} r P Q h k = go (r .verdict) h
   where
-    go : (v : Verdict A) → AfterAs v (r .state) (r .tape) P → GivesAs v (r .state) (r .tape) (r .log) Q
+    go : (v : Verdict A) → AfterwardsAs v (r .state) (r .tape) P → GivesAs v (r .state) (r .tape) (r .log) Q
     go (going a) h = k a (r .state) (r .tape) refl h
     go refused h = tt
     go (failed n) h = tt
@@ -276,7 +276,7 @@ module _ (Holds : NetworkInfo → SubsetHandlingStrategy → Bool → List ℕ �
 
   -- the epoch's part, then the batches
   moved-by : (cur : ℕ) (vs ds ts : Tk) (e : ℕ) (who : Option ℕ) (comes : Bool) (ws : List Rec) (x : List ℕ) (r : List Rec) (l : List Entry) (v : List ℕ) (z : List Rec) (m : List Entry)
-      → (t : Told Holds net strategy (encrypted e) (vs e) (ds e) (ts e) who comes ws x r) → Quiet l
+      → (t : CallTold Holds net strategy (encrypted e) (vs e) (ds e) (ts e) who comes ws x r) → Quiet l
       → Batched cur (upd vs e (t .v′)) (upd ds e (t .d′)) (upd ts e (t .t′)) r v z m → Moved cur vs ds ts e who comes ws v z (l ++ m)
   moved-by cur vs ds ts e who comes ws x r l v z m t quiet b =
       let ee : eqb e e ≡ true = eq-eqb e e refl in
@@ -300,7 +300,7 @@ module _ (Holds : NetworkInfo → SubsetHandlingStrategy → Bool → List ℕ �
       }
 
   spoken : (w : List ℕ) (cur : ℕ) (vs ds ts : Tk) (e : ℕ) (who : Option ℕ) (comes : Bool) (ws : List Rec) (r : Run (List ℕ) (Unit {0})) → cur ≤ e → e ≤ cur + ahead w₀ → SimOf w cur vs ds ts
-      → After r (λ _ x q. Told Holds net strategy (encrypted e) (vs e) (ds e) (ts e) who comes ws x (q .rest)) → Alive (r .state) → Quiet (r .log)
+      → Afterwards r (λ _ x q. CallTold Holds net strategy (encrypted e) (vs e) (ds e) (ts e) who comes ws x (q .rest)) → Alive (r .state) → Quiet (r .log)
       → Gives (onward (inside (withEpoch w e) r) (λ _ w q. outputBatches w q)) (λ _ v q l. Moved cur vs ds ts e who comes ws v (q .rest) l)
   unfolding netOf
   spoken w cur vs ds ts e who comes ws r l u h a there quiet =

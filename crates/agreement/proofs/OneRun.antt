@@ -16,29 +16,29 @@ use Rattle.steps.specs.Answers.{Rec, tapeOf}
 use Rattle.steps.specs.Steps.{Entry, faults, outputs}
 use Rattle.steps.specs.Table.{within}
 use Rattle.steps.specs.Taken.{orElse, firstTaken, ofValue, ofDecision, firstDecrypted, thirteensIn}
-use Rattle.steps.proofs.Laws.{and-true}
-use Rattle.steps.proofs.Chains.{orElse-none, orElse-assoc, Good, table-good}
-use Rattle.steps.proofs.Read13.{gives-out}
-use Rattle.subset.proofs.Taken.{Grown, grown-or}
-use Rattle.subset.proofs.Votes.{Voted}
+use Rattle.steps.proofs.ChainLaws.{and-true}
+use Rattle.steps.proofs.TakenFromChain.{orElse-none, orElse-assoc, Good, table-good}
+use Rattle.steps.proofs.GivenWithLog.{gives-out}
+use Rattle.subset.proofs.TakenTests.{Grown, grown-or}
+use Rattle.subset.proofs.VotesAsked.{Voted}
 use Rattle.epochwords.specs.declared.SubsetHandlingStrategy.{SubsetHandlingStrategy}
 use Rattle.steps.specs.declared.reader.Content.the-variants.{Broadcast, Agreement}
 use Rattle.epoch.specs.declared.MessageContent.the-variants.{Subset, DecryptionShare}
-use Rattle.epoch.proofs.Told.{fivesAmong, shareOf, EpochLaws}
+use Rattle.epoch.proofs.Interface.{fivesAmong, shareOf, EpochLaws}
 use Rattle.state.specs.State.{nodesAt, aheadAt, nodes, faulty, ahead, currentEpoch, faultCount, faultsAt, netOf, strategyOf, encryptedIn, epochWords, stateOk}
 use Rattle.work.specs.HoneyBadger.{skipToEpoch, propose, handleMessage}
 use Rattle.calls.specs.Calls.{countFaults, proposeCall, contentOk, contentOf, messageCall, skipReply, skipState}
-use Rattle.work.specs.Laws.{Skipped}
+use Rattle.work.specs.SkipLaws.{Skipped}
 use Rattle.steps.specs.Batches.{Batch, batchesOf, fivesOf}
 use Rattle.agreement.specs.History.{Call, turnOf, stateAfter, turns, noneFails, Event, event, eventsOf, currentAfter, history, taken, decrypted, propose as proposing, message as messaging, skip as skipping}
-use Rattle.agreement.specs.Rule.{stateAfterAll, speaks}
+use Rattle.agreement.specs.Demand2.{stateAfterAll, speaks}
 use Rattle.work.proofs.Skips.{skip-stays, skip-moves}
-use Rattle.engine.proofs.Refusals.{skip-state}
-use Rattle.agreement.proofs.Shown.{batchesAmong, batches-read, fives-read}
-use Rattle.agreement.proofs.Handout.{Tk, textsOf, Hand, handout-later, Dealt, dealt-map, AllDealt}
+use Rattle.engine.proofs.Demand1.{skip-state}
+use Rattle.agreement.proofs.StepAsRead.{batchesAmong, batches-read, fives-read}
+use Rattle.agreement.proofs.BatchesDealt.{Tk, textsOf, Hand, handout-later, Dealt, dealt-map, AllDealt}
 use Rattle.agreement.proofs.Invariant.{zeros-vacant, Slot, vacant, Sim, sim-set}
 use Rattle.agreement.proofs.OneCall.{Moved, proposed-ok, handled-ok}
-use Rattle.agreement.proofs.Passes.{propose-passes, message-passes, other-leaves}
+use Rattle.agreement.proofs.ReplyZero.{propose-passes, message-passes, other-leaves}
 
 -- WHAT ONE EVENT ADDS to what was taken
 abbrev pub newV : Tk → Event → Tk

@@ -8,13 +8,13 @@ use Rattle.state.specs.State.{stateOk}
 use Rattle.engine.specs.Create.{createReply, createState}
 use Rattle.calls.specs.Calls.{After}
 use Rattle.agreement.specs.History.{Call, propose, message, skip, Turn, turnOf, stateAfter, turns, noneFails, Event, history}
-use Rattle.agreement.specs.Claim.{Sound, encryptedOf, Premises, Conclusions}
-use Rattle.agreement.specs.Rule.{stateAfterAll}
+use Rattle.agreement.specs.Demand3.{Sound, encryptedOf, Premises, Conclusions}
+use Rattle.agreement.specs.Demand2.{stateAfterAll}
 use Rattle.agreement.specs.Operations.{Seen, Keeps, KeepAll, Host, Kept, stepSeen, turnsSeen, callsSeen, stateSeen, madeBy, AsDefined, Unfailing, OperationsDefined, OperationsInRange, OperationsRule, OperationsAgree}
 use Rattle.agreement.proofs.Created.{create-ok}
 use Rattle.agreement.proofs.Ranges.{calls-in-range}
-use Rattle.agreement.proofs.Rule.{engine-rule}
-use Rattle.agreement.proofs.Agreement.{agreement}
+use Rattle.agreement.proofs.Demand2.{engine-rule}
+use Rattle.agreement.proofs.Demand3.{agreement}
 
 -- ONE CALL
 abbrev seenTurn : Call → Seen → Turn

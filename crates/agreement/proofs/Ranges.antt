@@ -13,7 +13,7 @@ use Rattle.steps.specs.Table.{handle, within, tableOk}
 use Rattle.steps.specs.Answers.{Tape, tapeOf}
 use Rattle.steps.specs.Steps.{Entry, faults}
 use Rattle.steps.specs.Runs.{Verdict, going, refused, failed, Run, ends, onward}
-use Rattle.steps.proofs.Laws.{and-true}
+use Rattle.steps.proofs.ChainLaws.{and-true}
 use Rattle.steps.proofs.Ranges.{by-test, AllSmall, table-small, Kept, Any, kept-going, kept-failed, kept-before, kept-cond, kept-ask, kept-then}
 use Rattle.subset.specs.Words.{countOf}
 use Rattle.subset.proofs.Ranges.{EpochOk, SafeEpoch}
@@ -22,15 +22,15 @@ use Rattle.steps.specs.declared.reader.Content.the-variants.{Broadcast, Agreeme
 use Rattle.epoch.specs.declared.MessageContent.the-variants.{Subset, DecryptionShare}
 use Rattle.epochwords.specs.Words.{isVacant, mostKept}
 use Rattle.epochwords.specs.Batch.{isReady, outputBatch}
-use Rattle.epoch.proofs.Lists.{new-epoch-none, propose-keeps, content-keeps}
+use Rattle.epoch.proofs.ListEmptied.{new-epoch-none, propose-keeps, content-keeps}
 use Rattle.epoch.proofs.Ranges.{ContentOk, new-epoch-ok, batch-safe, propose-safe, content-safe}
 use Rattle.state.specs.State.{nodes, ahead, currentEpoch, faultCount, inputAt, faultsAt, epochAt, netOf, strategyOf, encryptedIn, epochWords, withoutEpoch, stateOk}
 use Rattle.work.specs.HoneyBadger.{updateEpoch, epochStateMut, inEpoch, tryOutputBatches, propose, handleMessage, clearBelow, skipToEpoch}
 use Rattle.calls.specs.Calls.{After, countFaults, isEnd, concludeAs, proposeAfter, messageCall, contentOk, itemOk, contentOf, skipReply, skipState}
 use Rattle.agreement.specs.History.{propose as proposing, message as messaging, skip as skipping, stateAfter}
-use Rattle.agreement.specs.Rule.{CallsInRange}
+use Rattle.agreement.specs.Demand2.{CallsInRange}
 use Rattle.calls.proofs.CheckCases.{by-branch, by-propose, by-message}
-use Rattle.work.proofs.Looping.{same-batch}
+use Rattle.work.proofs.LoopOnlyReads.{same-batch}
 use Rattle.state.proofs.RangesState.{StateOk, input-ok, epoch-ok, faults-ok, nodes-same, ahead-same, strategy-same, current-below, words-ok, with-ok, without-ok, state-wider, header-ok, enter, leave}
 
 -- the runs of a state that came from w, whose nodes are 1 to 16

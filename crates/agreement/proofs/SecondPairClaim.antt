@@ -8,7 +8,7 @@ use lib.Dec.{eqb}
 use Rattle.steps.specs.Taken.{ofValue, ofDecision}
 use Rattle.engine.specs.Create.{createReply}
 use Rattle.agreement.specs.History.{readings}
-use Rattle.agreement.specs.Claim.{One, Two, Premises, Conclusions, turnsOf, historyOf, encryptedOf, Sound, SameNetwork, TwoRuns}
+use Rattle.agreement.specs.Demand3.{One, Two, Premises, Conclusions, turnsOf, historyOf, encryptedOf, Sound, SameNetwork, TwoRuns}
 use Rattle.agreement.specs.Opened.{opened}
 use Rattle.agreement.proofs.SecondPairRuns.{told, eventsOf, linesC, linesD, hostC, hostD, replies-c, replies-d, history-c, history-d}
 use Rattle.agreement.proofs.Tests.{none-fails, took-alike, read-alike, is-one, is-two, tests}

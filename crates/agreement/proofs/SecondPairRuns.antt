@@ -1,4 +1,4 @@
--- A SECOND WORKED PAIR OF RUNS for demand 3 (Claim.antt): a validator and an observer among N 4 with f 1. Here are the runs and what is
+-- A SECOND WORKED PAIR OF RUNS for demand 3 (Demand3.antt): a validator and an observer among N 4 with f 1. Here are the runs and what is
 -- computed of them; SecondPairClaim.antt proves that all premises of the claim hold of them, and computes its conclusions.
 --
 -- What this pair has and the first one (FirstPairRuns.antt) has not: one decision 0 in each epoch; share messages, some before the ciphertext, whose
@@ -15,7 +15,7 @@ use Rattle.steps.specs.Batches.{Batch}
 use Rattle.steps.proofs.CaseTables.{table}
 use Rattle.state.specs.State.{stateLength, scratchLength}
 use Rattle.agreement.specs.History.{Call, propose, message, skip, Event, handed, valueTaken, decisionTaken, readings}
-use Rattle.agreement.specs.Claim.{Made, turnsOf, historyOf, encryptedOf}
+use Rattle.agreement.specs.Demand3.{Made, turnsOf, historyOf, encryptedOf}
 use Rattle.agreement.proofs.FirstPairRuns.{built, serialised, broadcast, delivered, voted, reads, readsNot, repliesIn, Seen, seenIn, entry}
 use Rattle.agreement.specs.Opened.{opened}
 

@@ -14,9 +14,9 @@ use Rattle.steps.specs.Answers.{Rec}
 use Rattle.steps.specs.Taken.{orElse, isTrue, lastOutputIn, firstTaken, thirteensIn}
 use Rattle.steps.specs.Batches.{BatchEntry, Batch}
 use Rattle.agreement.specs.History.{Turn, noneFails, Event, taken, decisionTaken, decidedTrueIn, onesIn, Handed, handed, handedIn, namesOf, thirteensOf, unreadable, unreadableOf, contributors, Reading}
-use Rattle.agreement.specs.Claim.{TookAlike, ReadAlike, DecidedTrue, Rising, Exact, One, Two}
+use Rattle.agreement.specs.Demand3.{TookAlike, ReadAlike, DecidedTrue, Rising, Exact, One, Two}
 use Rattle.agreement.proofs.FirstPairRuns.{repliesIn}
-use Rattle.agreement.proofs.Handout.{true-one, is-true}
+use Rattle.agreement.proofs.BatchesDealt.{true-one, is-true}
 
 -- two tests, both true
 unfoldable pub both : Bool → Bool → Bool

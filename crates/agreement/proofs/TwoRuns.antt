@@ -1,4 +1,4 @@
--- DEMAND 3: the claim about two whole lists of calls, for any `Holds` that has the laws of Told.antt and Batches.antt, which are parameters here. Assumes nothing.
+-- DEMAND 3: the claim about two whole lists of calls, for any `Holds` that has the laws of Interface.antt and Occupied.antt in `epoch`, which are parameters here. Assumes nothing.
 use Prim.Native.Nat.{ℕ, _-_}
 use native.Mathlib.Omega.{arith}
 use mathlib.Core.Path.{_≡_, refl, sym, ap, subst, subst₃, fun-ext}
@@ -12,17 +12,17 @@ use Rattle.steps.specs.Network.{Network}
 use Rattle.steps.specs.Taken.{orElse}
 use Rattle.epochwords.specs.declared.SubsetHandlingStrategy.{SubsetHandlingStrategy}
 use Rattle.epochwords.specs.Words.{isVacant}
-use Rattle.epoch.proofs.Told.{EpochLaws}
+use Rattle.epoch.proofs.Interface.{EpochLaws}
 use Rattle.state.specs.declared.EncryptionSchedule.the-variants.{Always, Never, EveryNthEpoch, TickTock}
 use Rattle.state.specs.Schedule.{scheduleOf, usedFirst, usedSecond, useOnEpoch}
 use Rattle.state.specs.State.{nodes, netOf, encryptedIn, epochWords}
 use Rattle.engine.specs.Create.{Numbers, numbersOk, created, createReply, createState}
 use Rattle.agreement.specs.History.{Event, history, turns, noneFails, handed}
-use Rattle.agreement.specs.Claim.{One, Made, historyOf, encryptedOf, Sound, TwoRuns}
+use Rattle.agreement.specs.Demand3.{One, Made, historyOf, encryptedOf, Sound, TwoRuns}
 use Rattle.agreement.proofs.Created.{create-passes, created-shaped, created-epoch, created-ok}
 use Rattle.state.proofs.RangesState.{network-ok}
-use Rattle.agreement.proofs.Handout.{AllDealt, InAll, all-at, all-handed, all-dealt, exact}
-use Rattle.agreement.proofs.Alike.{alike}
+use Rattle.agreement.proofs.BatchesDealt.{AllDealt, InAll, all-at, all-handed, all-dealt, exact}
+use Rattle.agreement.proofs.TwoHosts.{alike}
 use Rattle.agreement.proofs.Invariant.{vacant, Sim}
 use Rattle.agreement.proofs.OneRun.{run-ok}
 

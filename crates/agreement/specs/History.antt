@@ -204,15 +204,15 @@ unfoldable pub readingOf : ℕ → Option ℕ → Rec → List Reading
 readingOf kind none r = []
 readingOf kind (some x) r = record { kind = kind; subject = x; a = r .a; b = r .b } ∷ []
 
-unfoldable pub valueOf : (ℕ → Option ℕ) → Option ℕ → Option ℕ
-valueOf value none = none
-valueOf value (some p) = value p
+unfoldable pub valueConcerned : (ℕ → Option ℕ) → Option ℕ → Option ℕ
+valueConcerned value none = none
+valueConcerned value (some p) = value p
 
 -- "Kinds 8 and 9 concern their proposer's value", a 12 that of the proposer that it concerns. `value` gives the values taken in the epoch
 unfoldable pub readingsAt : (ℕ → Option ℕ) → Option ℕ → Rec → List Reading
 readingsAt value who r =
     cond (within ciphertextReads ciphertextVerifies (r .kind)) (readingOf (r .kind) (value (r .b)) r)
-    (cond (eqb (r .kind) contributionDecrypted) (readingOf contributionDecrypted (valueOf value who) r) [])
+    (cond (eqb (r .kind) contributionDecrypted) (readingOf contributionDecrypted (valueConcerned value who) r) [])
 
 unfoldable pub readingsIn : (ℕ → Option ℕ) → Option ℕ → List Rec → List Reading
 readingsIn value who [] = []

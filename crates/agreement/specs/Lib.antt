@@ -1,6 +1,6 @@
 pub mod History
-pub mod Claim
+pub mod Demand3
 pub mod Outputs
-pub mod Rule
+pub mod Demand2
 pub mod Operations
 pub mod Opened

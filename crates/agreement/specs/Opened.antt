@@ -8,7 +8,7 @@ unfolding EngineOpened.opened
     History.turnOf History.stateAfter History.turns History.noneFails History.eventsOf History.currentAfter
     History.history History.taken History.decrypted History.plaintext History.namesFrom History.countOpen
     History.wantedIn History.dealt History.handedOf History.namesOf History.thirteensOf History.unreadableIn
-    History.proposersIn History.unreadableOf History.readingOf History.valueOf History.readingsAt History.readingsIn
+    History.proposersIn History.unreadableOf History.readingOf History.valueConcerned History.readingsAt History.readingsIn
     History.readingsOf13 History.readingsOfBatches History.readingsOfCalls
     Outputs.pairsIn Outputs.pairsRead Outputs.pairsGiven Outputs.plaintextOf Outputs.timesAskedIn Outputs.isHandled
 opened = tt

@@ -1,4 +1,4 @@
--- What the paper's rule (Rule.antt) compares an epoch's output with, told from a run's history.
+-- What the paper's rule (Demand2.antt) compares an epoch's output with, told from a run's history.
 use Prim.Native.Nat.{ℕ, _+_}
 use mathlib.Core.List.{List, [], _∷_, _++_}
 use mathlib.Core.Bool.{Bool, cond, _&&_}

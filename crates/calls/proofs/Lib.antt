@@ -1,6 +1,6 @@
 -- What is proved of the definitions, for this crate's proofs and for those above it.
 pub mod CheckCases
 pub mod Settled
-pub mod Checked
-pub mod WaysOfCalls
-pub mod CallEnds
+pub mod ChecksApart
+pub mod OperationCode
+pub mod CallCode

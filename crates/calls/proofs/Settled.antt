@@ -19,7 +19,7 @@ use Rattle.work.specs.HoneyBadger.{propose, handleMessage}
 use Rattle.calls.specs.Calls.{countFaults, conclude}
 use Rattle.work.specs.Work.{proposeWork, messageWork, committed}
 use Rattle.calls.specs.Shape.{settled}
-use Rattle.work.proofs.Works.{propose-apart, message-apart}
+use Rattle.work.proofs.RunBesideState.{propose-apart, message-apart}
 
 -- the runs that `proposeAfter` and `messageCall` conclude
 module _ (state : List ℕ) (ok : stateOk state ≡ true) (p : Tape) (scratch step : List ℕ) where

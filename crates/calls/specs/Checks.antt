@@ -1,5 +1,5 @@
 -- The checks of propose and message apart from the run, as the code does them: the reply that turns a call down, or 0.
--- Nobody has to believe these: proofs/Checked.antt proves that with what follows them they are the calls of Calls.antt.
+-- Nobody has to believe these: proofs/ChecksApart.antt proves that with what follows them they are the calls of Calls.antt.
 use Prim.Native.Nat.{ℕ}
 use mathlib.Core.List.{List}
 use mathlib.Core.Bool.{Bool, cond, not}

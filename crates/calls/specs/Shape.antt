@@ -17,7 +17,7 @@ use Rattle.work.specs.Shape.{CallOk, callWork}
 use Rattle.calls.specs.Calls.{After, conclude}
 
 -- WHAT A CALL COMES TO after a run in epoch e. `v` is the state that the commit writes on: `state`, or `state` with has input set. After a
--- failed run nothing is skipped, and the commit writes the epoch's words alone (`propose-failed`, `message-failed` in work/proofs/Works.antt)
+-- failed run nothing is skipped, and the commit writes the epoch's words alone (`propose-failed`, `message-failed` in work/proofs/RunBesideState.antt)
 abbrev pub settled : Run Worked (Unit {0}) → ℕ → List ℕ → List ℕ → List ℕ → List ℕ → After
 settled r e v state scratch step = conclude (inside (committed v e) r) e state scratch step
 

@@ -82,7 +82,7 @@ pub fn too_early(
     SUCCESS
 }
 
-// A run whose step has no record: it failed, and its step is lost, or it is done and wrote none (`done-empty` in proofs/CallEnds.antt).
+// A run whose step has no record: it failed, and its step is lost, or it is done and wrote none (`done-empty` in proofs/CallCode.antt).
 // What it changed stays.
 fn close(
     state: &mut [u64],

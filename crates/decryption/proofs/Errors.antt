@@ -13,23 +13,23 @@ use Rattle.steps.specs.Answers.{Tape, asked, askAbout}
 use Rattle.steps.specs.Steps.{fault}
 use Rattle.steps.specs.Runs.{going, failed, Run, ends, before, onward}
 use Rattle.steps.proofs.Logic.{anything}
-use Rattle.steps.proofs.States.{holding}
-use Rattle.steps.proofs.Fails.{only-number, numbers, failing}
+use Rattle.steps.proofs.StateKept.{holding}
+use Rattle.steps.proofs.FailureNumbers.{only-number, numbers, failing}
 use Rattle.decryption.specs.Decrypt.{withShares, withInput, withEnd, isSome, isSender, countShares, setCiphertext, removeInvalidShares, ownShare, combine, tryWith, startDecryption, tryOutput, storeShare, handleMessage}
 use Rattle.decryption.specs.declared.ThresholdDecrypt.{ThresholdDecrypt}
 use Rattle.decryption.specs.declared.Validity.the-variants.{Valid}
-use Rattle.steps.proofs.After.{After, after-cond, after-out, after-about}
-use Rattle.decryption.proofs.Cycle.{cond-cong, start-redundant, start-onward, try-few, try-none}
+use Rattle.steps.proofs.AfterRun.{Afterwards, after-cond, after-out, after-about}
+use Rattle.decryption.proofs.CycleCode.{cond-cong, start-redundant, start-onward, try-few, try-none}
 use Rattle.decryption.proofs.Walk.{Does, Checks, Combines, set-keeps as set-walk, remove-keeps as remove-walk, start-keeps as start-walk, try-keeps as try-walk, store-keeps as store-walk, handle-keeps as handle-walk}
-use Rattle.decryption.proofs.Messages.{store-first, store-again, handle-ended, handle-valid}
-use Rattle.decryption.proofs.Laws.{valid-early, valid-told}
+use Rattle.decryption.proofs.MessageCode.{store-first, store-again, handle-ended, handle-valid}
+use Rattle.decryption.proofs.ShareCode.{valid-early, valid-told}
 
 -- `CIPHERTEXTISNONE` CANNOT ARISE. Once the ciphertext is set the instance has it
 pub set-has : (proposer c : ℕ) (td : ThresholdDecrypt) (p : Tape) → setCiphertext proposer c td p .verdict ≡ going true → setCiphertext proposer c td p .state .ciphertext ≡ c
 unfolding setCiphertext
 set-has proposer c td p e = after-out (setCiphertext proposer c td p) _ true has e refl
   where
-    has : After (setCiphertext proposer c td p) (λ x s q. x ≡ true → s .ciphertext ≡ c)
+    has : Afterwards (setCiphertext proposer c td p) (λ x s q. x ≡ true → s .ciphertext ≡ c)
     has =
         after-cond (isSome (td .ciphertext)) _ _ _ tt
         (after-about p 9 td _ _ proposer (λ a b q r. after-cond (eqb a 0) _ _ _ (λ z. absurd (false≢true z)) (λ z. refl)))

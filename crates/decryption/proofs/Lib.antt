@@ -1,9 +1,9 @@
 -- What is proved of the definitions, for this crate's proofs and for those above it.
-pub mod Laws
-pub mod Cycle
-pub mod Messages
+pub mod ShareCode
+pub mod CycleCode
+pub mod MessageCode
 pub mod Walk
-pub mod Reading
+pub mod ReadsFirstPart
 pub mod Errors
 pub mod Ranges
 pub mod Bounded

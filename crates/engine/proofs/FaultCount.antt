@@ -19,7 +19,7 @@ use Rattle.state.proofs.Window.{Shaped, header-first}
 use Rattle.state.proofs.RangesState.{shaped}
 use Rattle.work.proofs.Skips.{skip-head}
 use Rattle.calls.proofs.CheckCases.{by-branch, by-propose, by-message}
-use Rattle.work.proofs.Works.{propose-counts, message-counts}
+use Rattle.work.proofs.RunBesideState.{propose-counts, message-counts}
 
 -- a successful step's faults are added, up to the limit
 pub count-of : (n f : ℕ) (w : List ℕ) → Shaped n f w → (log : List Entry)

@@ -1,4 +1,4 @@
 pub mod Create
 pub mod Shape
-pub mod Laws
+pub mod Demand1
 pub mod Opened

@@ -17,13 +17,13 @@ use Rattle.steps.specs.Answers.{Rec, Tape, tape, askFor, askAbout}
 use Rattle.steps.specs.Steps.{Entry, fault}
 use Rattle.steps.specs.Runs.{going, Run, ends, before, onwardAs, onward, heardAs, heard, inside}
 use Rattle.steps.specs.Bits.{countBits}
-use Rattle.steps.proofs.Runs.{onward-at}
+use Rattle.steps.proofs.RunLaws.{onward-at}
 use Rattle.decryption.specs.declared.ThresholdDecrypt.{ThresholdDecrypt}
 use Rattle.decryption.specs.Decrypt.{setCiphertext}
 use Rattle.subset.specs.Words.{recordLength, epochLength, statusAt, decidedAt, acceptedAt, countAt, recordAt, proposalAt, valueAt, arrivalAt, addContribution}
 use Rattle.subset.specs.Bits.{receivedTags, proposalsIn}
 use Rattle.subset.specs.Subset.{receivedProposals as receivedBySubset}
-use Rattle.subset.proofs.Frames.{apart, differ, add-word, add-value, add-arrival}
+use Rattle.subset.proofs.ProposalStored.{apart, differ, add-word, add-value, add-arrival}
 use Rattle.subset.proofs.Bits.{ones-bits, received-ones}
 use Rattle.epochwords.specs.declared.SubsetHandlingStrategy.{SubsetHandlingStrategy}
 use Rattle.epochwords.specs.declared.SubsetHandlingStrategy.the-variants.{AllAtEnd}
@@ -32,9 +32,9 @@ use Rattle.epoch.specs.Epoch.{receivedProposals, unexpectedFrom, unexpec
 use Rattle.epochwords.specs.Batch.{decryptedFrom, isReadyIn, isReady}
 use Rattle.subset.specs.Rule.{Contribution, contributionsFrom}
 use Rattle.epoch.specs.Orders.{receivedBits, isUnexpected, bySender, byProposer, handleEach}
-use Rattle.epochwords.proofs.Entries.{accept-word, accept-same, entry-tag, store-size, places, store-word, store-subset}
+use Rattle.epochwords.proofs.EntryStored.{accept-word, accept-same, entry-tag, store-size, places, store-word, store-subset}
 use Rattle.steps.proofs.Logic.{anything}
-use Rattle.steps.proofs.States.{holding, still}
+use Rattle.steps.proofs.StateKept.{holding, still}
 use Rattle.epoch.proofs.Walk.{Handles, handles-hold, contribution-keeps}
 
 -- RECEIVED PROPOSALS are the ones of a word: of an ongoing epoch the proposals in HasValue or Complete with 1, after Done the accepted ones

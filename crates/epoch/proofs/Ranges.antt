@@ -20,7 +20,7 @@ use Rattle.epoch.specs.Epoch.{newEpoch, firstContributions, entryAfter, 
 use Rattle.epochwords.specs.Batch.{outputBatch}
 use Rattle.epoch.proofs.Walk.{Rules, propose-keeps, content-keeps}
 use Rattle.epochwords.proofs.Walk.{Batches, batch-keeps}
-use Rattle.epochwords.proofs.RangesWords.{EntryOk, load-entry-ok, store-entry-ok, accept-ok}
+use Rattle.epochwords.proofs.LimitsOfWords.{EntryOk, load-entry-ok, store-entry-ok, accept-ok}
 
 -- a share that comes in a message is a handle
 unfoldable pub ContentOk : MessageContent → Type 0

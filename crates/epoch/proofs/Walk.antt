@@ -12,7 +12,7 @@ use Rattle.steps.specs.Answers.{Tape}
 use Rattle.steps.specs.Steps.{fault}
 use Rattle.steps.specs.Runs.{Verdict, going, refused, failed, Run, ends, before, inside}
 use Rattle.steps.proofs.Logic.{Hand, hand, nothing, Terms, anything, Logic, here, there, test, perhaps}
-use Rattle.steps.proofs.States.{holding, still}
+use Rattle.steps.proofs.StateKept.{holding, still}
 use Rattle.decryption.specs.declared.ThresholdDecrypt.{ThresholdDecrypt}
 use Rattle.decryption.specs.Decrypt.{isSender, withCiphertext}
 use Rattle.decryption.proofs.Walk.{Does, plaintext, Combines, any-combines, by-valid, set-keeps, start-keeps, handle-keeps as share-keeps}

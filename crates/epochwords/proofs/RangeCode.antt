@@ -10,7 +10,7 @@ use lib.Seq.{length-take-le, getD-take, getD-drop}
 use lib.Dec.{eqb, leb, ltb}
 use lib.Bits.{bitOr, or-lt, or-add-and, and-le-l, and-le-r}
 use borrow.Author.Tests.{le-leb, lt-ltb, le-ltb, ltb-true, ltb-false, eq-eqb, eqb-true, ne-eqb}
-use Rattle.steps.proofs.Laws.{and-true as parts, same-tests}
+use Rattle.steps.proofs.ChainLaws.{and-true as parts, same-tests}
 use Rattle.steps.proofs.Ranges.{and-both}
 use Rattle.subset.specs.Words.{recordLength, recordAt, epochLength, tagCompleteTrue, statusOf, statusComplete, decidedAt, acceptedOf, countOf}
 use Rattle.subset.proofs.Ranges.{fieldLimit, two-some}
@@ -18,7 +18,7 @@ use Rattle.epochwords.specs.declared.SubsetHandlingStrategy.{SubsetHandl
 use Rattle.epochwords.specs.Shape.{EpochWords}
 use Rattle.epochwords.specs.Words.{maybeHandle, allFrom, recordInRange, smallInRange, recordsInRange, entryComplete, mostKept, epochInRange}
 use Rattle.epochwords.proofs.BatchCode.{all-left}
-use Rattle.epochwords.proofs.RangesWords.{all-at, all-every, record-below}
+use Rattle.epochwords.proofs.LimitsOfWords.{all-at, all-every, record-below}
 
 -- two words joined are below a power of two where both are
 pub join-below : (a b k : ℕ) → ltb (bitOr a b) (2 ^ k) ≡ (ltb a (2 ^ k) && ltb b (2 ^ k))

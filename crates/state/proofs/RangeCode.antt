@@ -15,7 +15,7 @@ use Rattle.subset.specs.Words.{epochLength}
 use Rattle.epochwords.specs.Shape.{EpochWords, Listed}
 use Rattle.epochwords.specs.Words.{allFrom, epochInRange}
 use Rattle.epochwords.proofs.RangeCode.{none-below, join-below}
-use Rattle.epochwords.proofs.RangesWords.{ok-listed}
+use Rattle.epochwords.proofs.LimitsOfWords.{ok-listed}
 use Rattle.state.specs.Schedule.{scheduleOf}
 use Rattle.state.specs.State.{headerLength, nodesAt, faultyAt, aheadAt, scheduleAt, epochAt, vacantAt, nodes, faulty, ahead, schedule, firstNumber, secondNumber, strategyOf, epochsAt, stateLength, epochWords, allHold, headerTests, headerInRange, epochsInRange, stateOk}
 use Rattle.state.specs.Shape.{StateWords, Divides}

@@ -11,12 +11,12 @@ use lib.Dec.{eqb, leb}
 use borrow.Author.Tests.{eqb-true, eqb-false, leb-true, ltb-true, eq-eqb, le-leb}
 use Rattle.steps.specs.Numbers.{lastEpoch, faultLimit}
 use Rattle.steps.specs.Network.{Network}
-use Rattle.steps.proofs.Laws.{and-true}
+use Rattle.steps.proofs.ChainLaws.{and-true}
 use Rattle.steps.proofs.Ranges.{and-both, zeros-at, below-zeros}
 use Rattle.subset.specs.Words.{epochLength, countAt, countOf}
 use Rattle.subset.proofs.Ranges.{limitAt, limit-some, EpochOk}
 use Rattle.epochwords.specs.Words.{mostKept, epochInRange}
-use Rattle.epochwords.proofs.RangesWords.{all-at, all-every, epoch-below, epoch-keeps, epoch-in}
+use Rattle.epochwords.proofs.LimitsOfWords.{all-at, all-every, epoch-below, epoch-keeps, epoch-in}
 use Rattle.state.specs.State.{headerLength, profileAt, nodesAt, faultyAt, aheadAt, ownAt, keyAt, strategyAt, scheduleAt, firstNumberAt, secondNumberAt, epochAt, inputAt, faultsAt, vacantAt, epochsAt, stateLength, scratchLength, scratchOf, nodes, ahead, currentEpoch, input, faultCount, netOf, strategyOf, epochWords, withEpoch, withoutEpoch, allHold, headerTests, headerInRange, epochsInRange, stateOk}
 use Rattle.state.proofs.Bools.{test-holds}
 use Rattle.state.proofs.Window.{Shaped, header-first, words-are, words-long, with-head, with-shaped, with-place, with-other, set-shaped, set-words}

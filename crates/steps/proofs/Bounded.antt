@@ -18,8 +18,8 @@ use Rattle.steps.specs.Table.{shapeOk, tableOk}
 use Rattle.steps.specs.Answers.{Rec, Tape, tape, link, recAt, onRecord, walk, chain, tapeOf, Asked, asked, askFor, ask, askAbout}
 use Rattle.steps.specs.Steps.{Entry, message, fault}
 use Rattle.steps.specs.Runs.{Verdict, going, refused, failed, Run, ends, before, onwardAs, onward, heardAs, heard}
-use Rattle.steps.specs.Parts.{isPart, messageKind, faultKind, partEntries, lastOutput, Told, partsFrom, readParts}
-use Rattle.steps.proofs.Laws.{and-true, on-bounds, link-up, link-end}
+use Rattle.steps.specs.Parts.{isPart, messageKind, faultKind, partEntries, lastOutput, PartsTold, partsFrom, readParts}
+use Rattle.steps.proofs.ChainLaws.{and-true, on-bounds, link-up, link-end}
 use Rattle.steps.proofs.Parts.{parts-on, parts-off}
 use Rattle.steps.proofs.Ranges.{by-test}
 use Rattle.steps.proofs.Logic.{Hand, hand, nothing, given, anything, Logic}
@@ -132,7 +132,7 @@ module _ (content : Content) (proposer : ℕ) where
   parts-few o i [] = omega arith
   parts-few o i (r ∷ rs) = go (isPart (r .kind)) refl (parts-few (lastOutput o (r .kind) (r .b)) (r .next) rs)
     where
-      later : Told
+      later : PartsTold
       later = partsFrom content proposer (lastOutput o (r .kind) (r .b)) (r .next) rs
 
       go : (x : Bool) → isPart (r .kind) ≡ x → length (later .log) + length (later .tape .rest) ≤ length rs

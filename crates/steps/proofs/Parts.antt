@@ -11,12 +11,12 @@ use Rattle.steps.specs.declared.step.Step.{Step}
 use Rattle.steps.specs.Answers.{Rec, tape, chain, tapeAt, headOf}
 use Rattle.steps.specs.Steps.{Entry, message, fault, Out, out, putEntry, putAll}
 use Rattle.steps.specs.Runs.{Run, leaves}
-use Rattle.steps.specs.Parts.{isPart, messageKind, faultKind, partEntries, lastOutput, Told, partsFrom, toldBy, left}
-use Rattle.steps.proofs.Laws.{chain-found, chain-ended}
-use Rattle.steps.proofs.Runs.{leaves-before}
+use Rattle.steps.specs.Parts.{isPart, messageKind, faultKind, partEntries, lastOutput, PartsTold, partsFrom, toldBy, left}
+use Rattle.steps.proofs.ChainLaws.{chain-found, chain-ended}
+use Rattle.steps.proofs.RunLaws.{leaves-before}
 
 -- what is told with entries before
-abbrev pub afterEntries : List Entry → Told → Told
+abbrev pub afterEntries : List Entry → PartsTold → PartsTold
 afterEntries l told = record { output = told .output; tape = told .tape; log = l ++ told .log }
 
 module _ (content : Content) (proposer : ℕ) (output : Output) (i : ℕ) (r : Rec) (rs : List Rec) where

@@ -19,9 +19,9 @@ use Rattle.steps.specs.Answers.{Rec, Tape, tape, link, recAt, chain, tap
 use Rattle.steps.specs.Steps.{Entry}
 use Rattle.steps.specs.Runs.{Verdict, going, refused, failed, Run, ends, onwardAs, onward, heardAs, heard, inside}
 use Rattle.steps.specs.Parts.{isPart, outputOf, lastOf, lastOutput, partsFrom, readParts}
-use Rattle.steps.proofs.Laws.{and-true, on-record, off-at-zero, link-up, link-end, chain-on, chain-off}
+use Rattle.steps.proofs.ChainLaws.{and-true, on-record, off-at-zero, link-up, link-end, chain-on, chain-off}
 use Rattle.steps.proofs.Parts.{parts-on, parts-off}
-use Rattle.steps.proofs.Chain.{follow-rule, follow-facts}
+use Rattle.steps.proofs.TableCheck.{follow-rule, follow-facts}
 use Rattle.steps.proofs.Logic.{given, Terms, Logic}
 
 -- A TEST that came out

@@ -8,8 +8,8 @@ use lib.ListN.{length, getD, drop, length-append, length-drop}
 use lib.Seq.{getD-drop, drop-drop, drop-at}
 use Rattle.steps.specs.Answers.{Rec, link, recAt, chain}
 use Rattle.steps.specs.Steps.{Entry, Item, item, messages, faults, outputs, linkAfter, chainWords, firstAt, laidOut, stepWords, written}
-use Rattle.steps.proofs.Laws.{on-record, off-at-zero, link-up, link-end, chain-on, chain-off}
-use Rattle.steps.proofs.Finished.{chain-length}
+use Rattle.steps.proofs.ChainLaws.{on-record, off-at-zero, link-up, link-end, chain-on, chain-off}
+use Rattle.steps.proofs.SecondRunWrites.{chain-length}
 
 -- a record of a chain without its next
 abbrev pub itemOf : Rec → Item

@@ -19,7 +19,7 @@ unfolding Table.recordOk Table.contextAfter Table.linkOk Table.mayFollow Table.c
     Verdicts.numberOf
     Runs.onwardAs Runs.onward Runs.heardAs Runs.heard
     Parts.isPart Parts.partEntries Parts.outputOf Parts.lastOf Parts.lastOutput Parts.partsFrom
-    Taken.orElse Taken.isThere Taken.isTrue Taken.lastOutputIn Taken.firstTaken Taken.asked Taken.onesFrom
+    Taken.orElse Taken.isThere Taken.isTrue Taken.lastOutputIn Taken.firstTaken Taken.isAsked Taken.onesFrom
     Taken.concernedAfter Taken.concerns Taken.firstDecrypted Taken.thirteensIn
     Bits.hasBit Bits.withBit Bits.countBits Bits.bitsFrom
     Times.timesAsked

@@ -45,13 +45,13 @@ unfoldable pub lastOutput : Output → ℕ → ℕ → Output
 lastOutput output kind b = lastOf output (outputOf kind b)
 
 -- what parts come to: the last output, where the reader stands, and the entries
-pub record Told : Type 0 where
+pub record PartsTold : Type 0 where
   pub output : Output
   pub tape : Tape
   pub log : List Entry
 
 -- the parts from here on, where `output` is the last so far and the reader stands at place i
-unfoldable pub partsFrom : Content → ℕ → Output → ℕ → List Rec → Told
+unfoldable pub partsFrom : Content → ℕ → Output → ℕ → List Rec → PartsTold
 partsFrom content proposer output i [] = record { output = output; tape = tape i []; log = [] }
 partsFrom content proposer output i (r ∷ rs) =
     elim (isPart (r .kind)) [
@@ -60,7 +60,7 @@ partsFrom content proposer output i (r ∷ rs) =
       | false ↦ record { output = output; tape = tape i (r ∷ rs); log = [] }
     ]
 
-abbrev pub toldBy : {S : Type 0} → S → Told → Run S Output
+abbrev pub toldBy : {S : Type 0} → S → PartsTold → Run S Output
 toldBy s told = record { state = s; verdict = going (told .output); tape = told .tape; log = told .log }
 
 -- reading the parts of an answer, in any layer

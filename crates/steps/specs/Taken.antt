@@ -42,9 +42,9 @@ abbrev pub ofDecision : ℕ → Bool
 ofDecision kind = within agreementMessage proposeFalse kind
 
 -- whether an answer of this kind about p was asked for
-unfoldable pub asked : ℕ → ℕ → List Rec → Bool
-asked kind p [] = false
-asked kind p (r ∷ rs) = (eqb (r .kind) kind && eqb (r .b) p) || asked kind p rs
+unfoldable pub isAsked : ℕ → ℕ → List Rec → Bool
+isAsked kind p [] = false
+isAsked kind p (r ∷ rs) = (eqb (r .kind) kind && eqb (r .b) p) || isAsked kind p rs
 
 -- how many of the next m proposers, from p on, are decided true
 unfoldable pub onesFrom : (ℕ → Option ℕ) → ℕ → ℕ → ℕ

@@ -16,16 +16,16 @@ use Rattle.steps.specs.Answers.{Rec, Tape, tapeOf}
 use Rattle.steps.specs.Table.{tableOk}
 use Rattle.steps.specs.Taken.{orElse, isThere, firstTaken, ofValue, ofDecision}
 use Rattle.steps.specs.Runs.{Verdict, going, refused, failed}
-use Rattle.steps.proofs.Laws.{and-true}
-use Rattle.steps.proofs.Chains.{orElse-none, orElse-assoc, Bit, table-good}
+use Rattle.steps.proofs.ChainLaws.{and-true}
+use Rattle.steps.proofs.TakenFromChain.{orElse-none, orElse-assoc, Bit, table-good}
 use Rattle.subset.specs.Words.{newEpoch, epochLength, decidedAt, countAt, proposalAt, valueAt, arrivalAt, proposalOf, loadProposal}
-use Rattle.subset.specs.Rule.{settledFrom, isOver, SubsetEvent, answers, tablesOk, takenBy, callSubset, wordsAs, thenWords, wordsAfter, Contribution, contributionsFrom, contributions, speaks, SubsetRule}
-use Rattle.steps.proofs.After.{AfterAs}
-use Rattle.proposal.proofs.Proposals.{outputOf}
+use Rattle.subset.specs.Rule.{settledFrom, isOver, SubsetEvent, answers, tablesOk, takenBy, runOf, wordsAs, thenWords, wordsAfter, Contribution, contributionsFrom, contributions, speaks, SubsetRule}
+use Rattle.steps.proofs.AfterRun.{AfterwardsAs}
+use Rattle.proposal.proofs.TakenByProposal.{outputOf}
 use Rattle.subset.proofs.Counts.{countIf}
-use Rattle.subset.proofs.Held.{Held, isNew}
-use Rattle.subset.proofs.Calls.{Called, call-ok}
-use Rattle.subset.proofs.Votes.{Whole, voted-whole}
+use Rattle.subset.proofs.Invariant.{Held, isNew}
+use Rattle.subset.proofs.TakenByCall.{Called, call-ok}
+use Rattle.subset.proofs.VotesAsked.{Whole, voted-whole}
 
 abbrev nothing : ℕ → Option ℕ
 nothing q = none
@@ -59,7 +59,7 @@ next-call net comes v d ws w′ done c =
     }
 
 module _ (net : NetworkInfo) (comes : Bool) (v d : ℕ → Option ℕ) where
-  read-whole : (ws : List Rec) (w′ : List ℕ) (verdict : Verdict Bool) (p : Tape) (s : List ℕ) → AfterAs verdict s p (λ done t z. Called none-old net comes v d ws done t (z .rest))
+  read-whole : (ws : List Rec) (w′ : List ℕ) (verdict : Verdict Bool) (p : Tape) (s : List ℕ) → AfterwardsAs verdict s p (λ done t z. Called none-old net comes v d ws done t (z .rest))
       → wordsAs net verdict (p .rest) s ≡ some w′ → Next net comes v d ws w′
   unfolding wordsAs
   read-whole ws w′ (going done) p s c e = go (p .rest) c e
@@ -73,13 +73,13 @@ module _ (net : NetworkInfo) (comes : Bool) (v d : ℕ → Option ℕ) where
 -- the words after one call
 abbrev wordsOf : NetworkInfo → List ℕ → SubsetEvent → Option (List ℕ)
 wordsOf net w x =
-    let r = callSubset net (x .call) w (tapeOf (x .table)) in
+    let r = runOf net (x .call) w (tapeOf (x .table)) in
     wordsAs net (r .verdict) (r .tape .rest) (r .state)
 
 one-call : (net : NetworkInfo) (w : List ℕ) (v d : ℕ → Option ℕ) (x : SubsetEvent) (w′ : List ℕ) → Known net w v d → tableOk (net .«num_nodes») (x .table) ≡ true
     → wordsOf net w x ≡ some w′ → Next net (speaks net (x .call)) v d (answers x) w′
 one-call net w v d x w′ k t e =
-    let r = callSubset net (x .call) w (tapeOf (x .table)) in
+    let r = runOf net (x .call) w (tapeOf (x .table)) in
     read-whole net (speaks net (x .call)) v d (answers x) w′ (r .verdict) (r .tape) (r .state)
     (call-ok none-old net w v d (k .held) (tapeOf (x .table)) (table-good (net .«num_nodes») (x .table) t) (k .decided) (x .call)) e
 

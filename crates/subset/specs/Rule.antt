@@ -14,7 +14,7 @@ use Rattle.steps.specs.Numbers.{agreementMessage, proposeTrue, proposeFalse, in
 use Rattle.steps.specs.Network.{Network, isValidator, numCorrect}
 use Rattle.steps.specs.Answers.{Rec, Tape, tapeOf}
 use Rattle.steps.specs.Table.{within, tableOk}
-use Rattle.steps.specs.Taken.{orElse, isThere, isTrue, firstTaken, ofValue, ofDecision, asked, onesFrom}
+use Rattle.steps.specs.Taken.{orElse, isThere, isTrue, firstTaken, ofValue, ofDecision, isAsked, onesFrom}
 use Rattle.steps.specs.Runs.{Verdict, going, refused, failed, Run}
 use Rattle.subset.specs.Words.{newEpoch, decidedAt, countOf, valueAt, contributor}
 use Rattle.subset.specs.Subset.{propose, handleMessage}
@@ -54,10 +54,10 @@ takenBy is [] p = none
 takenBy is (x ∷ xs) p = orElse (firstTaken is p (answers x)) (takenBy is xs p)
 
 module _ (net : NetworkInfo) where
-  unfoldable pub callSubset : SubsetCall → List ℕ → Tape → Run (List ℕ) Bool
-  callSubset proposing w tape = propose net inputSubset w tape
-  callSubset (broadcasting p) w tape = handleMessage net handleSubsetMessage Broadcast p w tape
-  callSubset (agreeing p) w tape = handleMessage net handleSubsetMessage Agreement p w tape
+  unfoldable pub runOf : SubsetCall → List ℕ → Tape → Run (List ℕ) Bool
+  runOf proposing w tape = propose net inputSubset w tape
+  runOf (broadcasting p) w tape = handleMessage net handleSubsetMessage Broadcast p w tape
+  runOf (agreeing p) w tape = handleMessage net handleSubsetMessage Agreement p w tape
 
   -- the words after a run of calls, each of which reads its whole chain; none where one is refused or fails
   unfoldable pub wordsAs : Verdict Bool → List Rec → List ℕ → Option (List ℕ)
@@ -73,7 +73,7 @@ module _ (net : NetworkInfo) where
   unfoldable pub wordsAfter : List ℕ → List SubsetEvent → Option (List ℕ)
   wordsAfter w [] = some w
   wordsAfter w (x ∷ xs) =
-      let r = callSubset (x .call) w (tapeOf (x .table)) in
+      let r = runOf (x .call) w (tapeOf (x .table)) in
       thenWords (wordsAs (r .verdict) (r .tape .rest) (r .state)) (λ w. wordsAfter w xs)
 
 -- a contribution, and those that have been handed up
@@ -100,18 +100,18 @@ speaks net proposing = isValidator net
 speaks net (broadcasting p) = true
 speaks net (agreeing p) = true
 
-pub record PaperRule (net : NetworkInfo) (h : List SubsetEvent) (x : SubsetEvent) (w : List ℕ) : Type 0 where
+pub record RuleAt (net : NetworkInfo) (h : List SubsetEvent) (x : SubsetEvent) (w : List ℕ) : Type 0 where
   -- "a delivered value earns a vote 1 while its agreement is undecided": then, and only then, vote 1 is asked for
   pub voteOne : (p : ℕ)
-      → asked proposeTrue p (answers x) ≡ (isThere (firstTaken ofValue p (answers x)) && not (isThere (takenBy ofDecision h p)))
+      → isAsked proposeTrue p (answers x) ≡ (isThere (firstTaken ofValue p (answers x)) && not (isThere (takenBy ofDecision h p)))
   -- "N−f ones bring vote 0 to undecided agreements without a vote", in the Rust also to those with one, "again on each such call. Above: no
   -- vote.": in every call that comes to the subset with exactly N−f ones, and in no other
   pub voteZero : (p : ℕ) → p < net .«num_nodes»
-      → asked proposeFalse p (answers x)
+      → isAsked proposeFalse p (answers x)
       ≡ (speaks net (x .call) && (eqb (onesFrom (decidedBefore7 h x) (net .«num_nodes») 0) (numCorrect net) && not (isThere (decidedBefore7 h x p))))
   -- "No outside call is made in HasValue for broadcast, in Accepted for agreement, in Complete at all."
-  pub broadcasts : (k p : ℕ) → ofValue k ≡ true → asked k p (answers x) ≡ true → (takenBy ofValue h p ≡ none) × (takenBy ofDecision h p ≢ some 0)
-  pub agrees : (p : ℕ) → asked agreementMessage p (answers x) ≡ true → takenBy ofDecision h p ≡ none
+  pub broadcasts : (k p : ℕ) → ofValue k ≡ true → isAsked k p (answers x) ≡ true → (takenBy ofValue h p ≡ none) × (takenBy ofDecision h p ≢ some 0)
+  pub agrees : (p : ℕ) → isAsked agreementMessage p (answers x) ≡ true → takenBy ofDecision h p ≡ none
   -- "when all have decided, at least N−f of them 1, and every value decided 1 is here": then, and only then, it is done
   pub done : eqb (getD w decidedAt 0) 1 ≡ isOver net (takenBy ofValue (h ++ (x ∷ []))) (takenBy ofDecision (h ++ (x ∷ [])))
   -- "the output is those pairs": handed up are the pairs of a proposer decided 1 and its value
@@ -126,4 +126,4 @@ abbrev pub SubsetRule : Type 0
 SubsetRule =
     (net : NetworkInfo) (h : List SubsetEvent) (x : SubsetEvent) (w : List ℕ) → Network net
     → tablesOk (net .«num_nodes») (h ++ (x ∷ [])) ≡ true
-    → wordsAfter net (newEpoch (net .«num_nodes»)) (h ++ (x ∷ [])) ≡ some w → PaperRule net h x w
+    → wordsAfter net (newEpoch (net .«num_nodes»)) (h ++ (x ∷ [])) ≡ some w → RuleAt net h x w

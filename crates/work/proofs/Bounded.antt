@@ -15,8 +15,8 @@ use Rattle.steps.specs.Steps.{Entry, out, putAll, counting, writing, records as
 use Rattle.steps.specs.Runs.{going, Run, ends, onward, inside}
 use Rattle.steps.proofs.Bounded.{Bounded, Spends, spends-bounded, bounded-spends, counting as countingRuns, chainLimit, table-bounded}
 use Rattle.steps.proofs.Logic.{hand, nothing, here, there, test, one}
-use Rattle.steps.proofs.Counting.{exactOf, counts-exact, records-counted}
-use Rattle.steps.proofs.Finished.{finished}
+use Rattle.steps.proofs.FirstRunCounts.{exactOf, counts-exact, records-counted}
+use Rattle.steps.proofs.SecondRunWrites.{finished}
 use Rattle.epoch.specs.declared.MessageContent.{MessageContent}
 use Rattle.epochwords.specs.Words.{isVacant}
 use Rattle.epochwords.specs.Batch.{isReady, outputBatch}
@@ -29,7 +29,7 @@ use Rattle.work.specs.HoneyBadger.{propose, handleMessage}
 use Rattle.work.specs.Work.{built, epochCall, batchesFrom, Worked, worked, beside, workIn, proposeWork, messageWork}
 use Rattle.work.specs.Shape.{callWork}
 use Rattle.state.proofs.RangeCode.{ok-words}
-use Rattle.work.proofs.Works.{propose-apart, message-apart}
+use Rattle.work.proofs.RunBesideState.{propose-apart, message-apart}
 
 -- WHAT A CALL WRITES besides one entry for each record that it reads. An epoch: at most 16 × 16 faults 2 and one fault more
 abbrev pub epochLimit : ℕ

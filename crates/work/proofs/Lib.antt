@@ -1,13 +1,13 @@
 -- What is proved of the definitions, for this crate's proofs and for those above it.
 pub mod Updates
-pub mod Fails
+pub mod FailureNumbers
 pub mod Skips
-pub mod Clearing
+pub mod ClearingIsSkipping
 pub mod CommitCode
-pub mod Looping
-pub mod Works
+pub mod LoopOnlyReads
+pub mod RunBesideState
 pub mod WorkRanges
-pub mod WorkLeaves
-pub mod BatchTurns
-pub mod RunParts
+pub mod RunLeaves
+pub mod BatchTurnCode
+pub mod RunCode
 pub mod Bounded

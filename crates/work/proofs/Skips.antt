@@ -13,7 +13,7 @@ use borrow.Author.Tests.{eqb-true, eqb-false, le-leb, lt-leb, ltb-true, lt-ltb}
 use Rattle.subset.specs.Words.{epochLength}
 use Rattle.state.specs.State.{headerLength, nodes, ahead, currentEpoch, epochAt, inputAt, epochWords, withoutEpoch, stateOk}
 use Rattle.work.specs.HoneyBadger.{clearBelow, skipToEpoch}
-use Rattle.work.specs.Laws.{Skipped}
+use Rattle.work.specs.SkipLaws.{Skipped}
 use Rattle.rings.proofs.Places.{same-place}
 use Rattle.state.proofs.Window.{Shaped, header-first, set-shaped, set-words, without-shaped, without-head, without-place, without-other}
 use Rattle.state.proofs.RangesState.{shaped}

@@ -1,5 +1,5 @@
 pub mod HoneyBadger
 pub mod Work
 pub mod Shape
-pub mod Laws
+pub mod SkipLaws
 pub mod Opened

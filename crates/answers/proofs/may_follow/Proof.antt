@@ -6,7 +6,7 @@ use native.Mathlib.Omega.{arith}
 use lib.ListN.{length}
 use borrow.Author.Tests.{not-true, not-false}
 use Rattle.steps.specs.Table.{linkOk, mayFollow}
-use Rattle.steps.proofs.Chain.{link-facts}
+use Rattle.steps.proofs.TableCheck.{link-facts}
 use borrow.Author.Needs.{needs}
 use Rattle.answers.proofs.may_follow.Statement.{statement}
 use Rattle.answers.proofs.may_follow.Tie as tie

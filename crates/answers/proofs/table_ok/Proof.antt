@@ -6,7 +6,7 @@ use native.Mathlib.Omega.{arith}
 use lib.ListN.{length, getD}
 use borrow.Author.Tests.{not-true, not-false}
 use Rattle.steps.specs.Table.{mayFollow, chainOk, shapeOk, tableOk}
-use Rattle.steps.proofs.Chain.{shape-length, follow-facts, chain-end, chain-step}
+use Rattle.steps.proofs.TableCheck.{shape-length, follow-facts, chain-end, chain-step}
 use borrow.Author.Needs.{needs}
 use Rattle.answers.proofs.table_ok.Statement.{statement}
 use Rattle.answers.proofs.table_ok.Tie as tie

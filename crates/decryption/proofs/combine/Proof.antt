@@ -3,7 +3,7 @@ use mathlib.Core.Path.{sym, ap}
 use borrow.Author.Needs.{needs}
 use Rattle.steps.specs.Steps.{putAll}
 use Rattle.steps.specs.Runs.{leaves}
-use Rattle.decryption.proofs.Cycle.{combine-refused, combine-failed, combine-plain}
+use Rattle.decryption.proofs.CycleCode.{combine-refused, combine-failed, combine-plain}
 use Rattle.decryption.proofs.combine.Statement.{statement}
 use Rattle.decryption.proofs.combine.Tie as tie
 use Rattle.decryption.proofs.combine.Reads as reads

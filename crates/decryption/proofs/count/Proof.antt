@@ -5,7 +5,7 @@ use mathlib.Core.Logic.{⊎-elim}
 use native.Mathlib.Omega.{arith}
 use borrow.Author.Needs.{needs}
 use Rattle.decryption.specs.Decrypt.{countFrom}
-use Rattle.decryption.proofs.Laws.{count-some, count-none, count-done}
+use Rattle.decryption.proofs.ShareCode.{count-some, count-none, count-done}
 use Rattle.decryption.proofs.count.Statement.{statement}
 use Rattle.decryption.proofs.count.Tie as tie
 use Rattle.decryption.proofs.count.Reads as reads

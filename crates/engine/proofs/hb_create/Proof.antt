@@ -3,7 +3,7 @@ use mathlib.Core.Path.{sym, _∙_}
 use borrow.Author.Needs.{needs}
 use borrow.Author.Tests.{not-true, not-false}
 use Rattle.engine.specs.Create.{numbers}
-use Rattle.engine.proofs.Creating.{numbers-few, create-off, create-short, create-done}
+use Rattle.engine.proofs.CreateCode.{numbers-few, create-off, create-short, create-done}
 use Rattle.engine.proofs.hb_create.Statement.{statement}
 use Rattle.engine.proofs.hb_create.Tie as tie
 use Rattle.engine.proofs.hb_create.Reads as reads

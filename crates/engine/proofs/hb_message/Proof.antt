@@ -7,7 +7,7 @@ use lib.Seq.{length-take-le}
 use Rattle.state.proofs.WordsCode.{header-inside}
 use Rattle.state.proofs.RangeCode.{ok-words}
 use Rattle.calls.specs.Checks.{leavesScratch}
-use Rattle.calls.proofs.Checked.{then-past, first-past, message-callable, message-checked, ends-first, ends-turned, ends-run, cleared, after-scratch, same-content}
+use Rattle.calls.proofs.ChecksApart.{then-past, first-past, message-callable, message-checked, ends-first, ends-turned, ends-run, cleared, after-scratch, same-content}
 use Rattle.engine.proofs.hb_message.Statement.{statement}
 use Rattle.engine.proofs.hb_message.Tie as tie
 use Rattle.engine.proofs.hb_message.Reads as reads

@@ -7,7 +7,7 @@ use lib.Seq.{length-take-le}
 use Rattle.state.proofs.WordsCode.{header-inside}
 use Rattle.state.proofs.RangeCode.{ok-words}
 use Rattle.calls.specs.Checks.{leavesScratch}
-use Rattle.calls.proofs.Checked.{then-past, first-past, propose-callable, propose-checked, ends-first, ends-turned, ends-run, cleared, after-scratch}
+use Rattle.calls.proofs.ChecksApart.{then-past, first-past, propose-callable, propose-checked, ends-first, ends-turned, ends-run, cleared, after-scratch}
 use Rattle.engine.proofs.hb_propose.Statement.{statement}
 use Rattle.engine.proofs.hb_propose.Tie as tie
 use Rattle.engine.proofs.hb_propose.Reads as reads

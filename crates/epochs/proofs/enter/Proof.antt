@@ -2,7 +2,7 @@
 use mathlib.Core.Path.{_≡_, refl, sym, _∙_}
 use mathlib.Core.Bool.{Bool, true, false, not}
 use borrow.Author.Needs.{needs}
-use Rattle.epochwords.proofs.RangesWords.{epoch-below, ok-listed}
+use Rattle.epochwords.proofs.LimitsOfWords.{epoch-below, ok-listed}
 use Rattle.epochs.proofs.enter.Statement.{statement}
 use Rattle.epochs.proofs.enter.Tie as tie
 use Rattle.epochs.proofs.enter.Reads as reads

@@ -4,7 +4,7 @@ use native.Mathlib.Omega.{arith}
 use borrow.Author.Needs.{needs}
 use Rattle.work.specs.Work.{worked}
 use Rattle.work.specs.Shape.{callBase}
-use Rattle.calls.proofs.CallEnds.{after-same, failed-full, failed-done}
+use Rattle.calls.proofs.CallCode.{after-same, failed-full, failed-done}
 use Rattle.calls.proofs.call.close.Statement.{statement}
 use Rattle.calls.proofs.call.close.Tie as tie
 use Rattle.calls.proofs.call.close.Reads as reads

@@ -7,7 +7,7 @@ use Rattle.state.proofs.WordsCode.{header-inside}
 use Rattle.state.proofs.RangeCode.{ok-words}
 use Rattle.work.specs.Shape.{callBase, callWork, countMore}
 use Rattle.work.proofs.Bounded.{call-exact}
-use Rattle.calls.proofs.CallEnds.{after-same, done-counted, done-full, done-written}
+use Rattle.calls.proofs.CallCode.{after-same, done-counted, done-full, done-written}
 use Rattle.calls.proofs.call.finish.Statement.{statement}
 use Rattle.calls.proofs.call.finish.Tie as tie
 use Rattle.calls.proofs.call.finish.Reads as reads

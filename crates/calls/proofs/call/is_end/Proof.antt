@@ -1,6 +1,6 @@
 -- Made by `fill` from answers.txt: change that and fill again.
 use borrow.Author.Needs.{needs}
-use Rattle.calls.proofs.CallEnds.{end-zero, end-at}
+use Rattle.calls.proofs.CallCode.{end-zero, end-at}
 use Rattle.calls.proofs.call.is_end.Statement.{statement}
 use Rattle.calls.proofs.call.is_end.Tie as tie
 use Rattle.calls.proofs.call.is_end.Reads as reads

@@ -6,7 +6,7 @@ use borrow.Author.Needs.{needs}
 use borrow.Author.Tests.{not-true, not-false}
 use Rattle.steps.specs.Answers.{tapeOf}
 use Rattle.steps.specs.Steps.{writing}
-use Rattle.calls.proofs.CallEnds.{after-same, still-unread, still-full, none-counted, rest-done}
+use Rattle.calls.proofs.CallCode.{after-same, still-unread, still-full, none-counted, rest-done}
 use Rattle.calls.proofs.call.rest.Statement.{statement}
 use Rattle.calls.proofs.call.rest.Tie as tie
 use Rattle.calls.proofs.call.rest.Reads as reads

@@ -7,7 +7,7 @@ use Rattle.steps.specs.Answers.{tapeOf}
 use Rattle.state.proofs.RangeCode.{ok-words}
 use Rattle.work.specs.Shape.{callBase, callWork}
 use Rattle.work.proofs.Bounded.{call-exact}
-use Rattle.calls.proofs.CallEnds.{nothing, commit-counted, first-step, first-counted, first-refused, failed-unread, failed-read, done-unread, done-empty, done-read}
+use Rattle.calls.proofs.CallCode.{nothing, commit-counted, first-step, first-counted, first-refused, failed-unread, failed-read, done-unread, done-empty, done-read}
 use Rattle.calls.proofs.call.run_twice.Statement.{statement}
 use Rattle.calls.proofs.call.run_twice.Tie as tie
 use Rattle.calls.proofs.call.run_twice.Reads as reads

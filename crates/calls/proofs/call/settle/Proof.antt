@@ -6,7 +6,7 @@ use lib.Seq.{length-take-le}
 use Rattle.state.proofs.WordsCode.{header-inside}
 use Rattle.state.proofs.RangeCode.{ok-words}
 use Rattle.calls.specs.Calls.{zeroed}
-use Rattle.calls.proofs.CallEnds.{epoch-fits, zeroed-part, after-same}
+use Rattle.calls.proofs.CallCode.{epoch-fits, zeroed-part, after-same}
 use Rattle.calls.proofs.call.settle.Statement.{statement}
 use Rattle.calls.proofs.call.settle.Tie as tie
 use Rattle.calls.proofs.call.settle.Reads as reads

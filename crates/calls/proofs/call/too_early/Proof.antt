@@ -8,7 +8,7 @@ use Rattle.steps.specs.Answers.{tapeOf}
 use Rattle.steps.specs.Steps.{fault}
 use Rattle.state.proofs.WordsCode.{header-inside}
 use Rattle.state.proofs.RangeCode.{ok-words}
-use Rattle.calls.proofs.CallEnds.{nothing, after-same, still-unread, still-full, one-fault, early-counted, early-done}
+use Rattle.calls.proofs.CallCode.{nothing, after-same, still-unread, still-full, one-fault, early-counted, early-done}
 use Rattle.calls.proofs.call.too_early.Statement.{statement}
 use Rattle.calls.proofs.call.too_early.Tie as tie
 use Rattle.calls.proofs.call.too_early.Reads as reads

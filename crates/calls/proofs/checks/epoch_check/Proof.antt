@@ -1,6 +1,6 @@
 -- Made by `fill` from answers.txt: change that and fill again.
 use borrow.Author.Needs.{needs}
-use Rattle.calls.proofs.Checked.{epoch-high, epoch-low}
+use Rattle.calls.proofs.ChecksApart.{epoch-high, epoch-low}
 use Rattle.calls.proofs.checks.epoch_check.Statement.{statement}
 use Rattle.calls.proofs.checks.epoch_check.Tie as tie
 use Rattle.calls.proofs.checks.epoch_check.Reads as reads

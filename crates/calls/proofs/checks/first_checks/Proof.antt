@@ -5,7 +5,7 @@ use borrow.Author.Needs.{needs}
 use borrow.Author.Tests.{not-true, not-false}
 use Rattle.state.proofs.WordsCode.{header-inside}
 use Rattle.state.proofs.RangeCode.{ok-words}
-use Rattle.calls.proofs.Checked.{first-three, first-four, first-five, first-none}
+use Rattle.calls.proofs.ChecksApart.{first-three, first-four, first-five, first-none}
 use Rattle.calls.proofs.checks.first_checks.Statement.{statement}
 use Rattle.calls.proofs.checks.first_checks.Tie as tie
 use Rattle.calls.proofs.checks.first_checks.Reads as reads

@@ -5,7 +5,7 @@ use borrow.Author.Needs.{needs}
 use borrow.Author.Tests.{not-true, not-false}
 use Rattle.state.proofs.WordsCode.{header-inside}
 use Rattle.state.proofs.RangeCode.{ok-words}
-use Rattle.calls.proofs.Checked.{then-passed, then-turned, first-ok, message-sender, message-content, message-item, message-none}
+use Rattle.calls.proofs.ChecksApart.{then-passed, then-turned, first-ok, message-sender, message-content, message-item, message-none}
 use Rattle.calls.proofs.checks.message_checks.Statement.{statement}
 use Rattle.calls.proofs.checks.message_checks.Tie as tie
 use Rattle.calls.proofs.checks.message_checks.Reads as reads

@@ -3,7 +3,7 @@ use mathlib.Core.Path.{sym, _∙_}
 use borrow.Author.Needs.{needs}
 use Rattle.state.proofs.WordsCode.{header-inside}
 use Rattle.state.proofs.RangeCode.{ok-words}
-use Rattle.calls.proofs.Checked.{then-passed, then-turned, first-ok}
+use Rattle.calls.proofs.ChecksApart.{then-passed, then-turned, first-ok}
 use Rattle.calls.proofs.checks.propose_checks.Statement.{statement}
 use Rattle.calls.proofs.checks.propose_checks.Tie as tie
 use Rattle.calls.proofs.checks.propose_checks.Reads as reads

@@ -6,7 +6,7 @@ use Rattle.steps.specs.Answers.{tapeOf}
 use Rattle.state.proofs.WordsCode.{header-inside}
 use Rattle.state.proofs.RangeCode.{ok-words}
 use Rattle.calls.specs.Calls.{zeroed}
-use Rattle.calls.proofs.WaysOfCalls.{message-early, message-late, message-runs}
+use Rattle.calls.proofs.OperationCode.{message-early, message-late, message-runs}
 use Rattle.calls.proofs.operations.handle_message.Statement.{statement}
 use Rattle.calls.proofs.operations.handle_message.Tie as tie
 use Rattle.calls.proofs.operations.handle_message.Reads as reads

@@ -8,7 +8,7 @@ use Rattle.steps.specs.Answers.{tapeOf}
 use Rattle.state.proofs.WordsCode.{header-inside}
 use Rattle.state.proofs.RangeCode.{ok-words}
 use Rattle.calls.specs.Calls.{zeroed}
-use Rattle.calls.proofs.WaysOfCalls.{propose-observer, propose-runs}
+use Rattle.calls.proofs.OperationCode.{propose-observer, propose-runs}
 use Rattle.calls.proofs.operations.propose.Statement.{statement}
 use Rattle.calls.proofs.operations.propose.Tie as tie
 use Rattle.calls.proofs.operations.propose.Reads as reads

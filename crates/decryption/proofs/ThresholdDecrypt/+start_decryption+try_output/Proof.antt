@@ -5,8 +5,8 @@ use borrow.Author.Needs.{needs}
 use mathlib.Core.Path.{sym, ap, _∙_}
 use Rattle.steps.specs.Runs.{leaves}
 use Rattle.decryption.specs.Outcomes.{checkedVerdict, verdict}
-use Rattle.decryption.proofs.Laws.{not-done, not-nothing, unset, hands, hands-as}
-use Rattle.decryption.proofs.Cycle.{start-redundant, start-none, start-refused, start-goes, own-below, own-observer, own-refused, own-sends, started-falls, ended-falls, try-ended, try-few, try-none, try-started, try-stops, try-goes}
+use Rattle.decryption.proofs.ShareCode.{not-done, not-nothing, unset, hands, hands-as}
+use Rattle.decryption.proofs.CycleCode.{start-redundant, start-none, start-refused, start-goes, own-below, own-observer, own-refused, own-sends, started-falls, ended-falls, try-ended, try-few, try-none, try-started, try-stops, try-goes}
 use Prim.Native.Nat.{ℕ, _<_}
 use borrow.Fn.Kinds.{In}
 use borrow.Fn.PlainCycle.{Measures, is, falls, and}

@@ -3,8 +3,8 @@ use mathlib.Core.Path.{sym, ap, _∙_}
 use borrow.Author.Needs.{needs}
 use Rattle.steps.specs.Steps.{putAll}
 use Rattle.steps.specs.Runs.{leaves}
-use Rattle.decryption.proofs.Laws.{hands}
-use Rattle.decryption.proofs.Messages.{handle-ended, handle-refused, handle-valid, handle-invalid}
+use Rattle.decryption.proofs.ShareCode.{hands}
+use Rattle.decryption.proofs.MessageCode.{handle-ended, handle-refused, handle-valid, handle-invalid}
 use Rattle.decryption.proofs.ThresholdDecrypt.handle_message.Statement.{statement}
 use Rattle.decryption.proofs.ThresholdDecrypt.handle_message.Tie as tie
 use Rattle.decryption.proofs.ThresholdDecrypt.handle_message.Reads as reads

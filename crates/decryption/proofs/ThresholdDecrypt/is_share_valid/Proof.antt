@@ -2,7 +2,7 @@
 use mathlib.Core.Path.{sym, _∙_}
 use borrow.Author.Needs.{needs}
 use borrow.Author.Tests.{eq-eqb, ne-eqb}
-use Rattle.decryption.proofs.Laws.{valid-early, valid-told, valid-refused}
+use Rattle.decryption.proofs.ShareCode.{valid-early, valid-told, valid-refused}
 use Rattle.decryption.proofs.ThresholdDecrypt.is_share_valid.Statement.{statement}
 use Rattle.decryption.proofs.ThresholdDecrypt.is_share_valid.Tie as tie
 use Rattle.decryption.proofs.ThresholdDecrypt.is_share_valid.Reads as reads

@@ -8,7 +8,7 @@ use Rattle.steps.specs.Answers.{tapeAt}
 use Rattle.steps.specs.Steps.{out, putAll}
 use Rattle.steps.specs.Runs.{leaves}
 use Rattle.decryption.specs.Decrypt.{removeFrom}
-use Rattle.decryption.proofs.Laws.{check-none, check-refused, check-valid, check-invalid, remove-goes, remove-refused, remove-done}
+use Rattle.decryption.proofs.ShareCode.{check-none, check-refused, check-valid, check-invalid, remove-goes, remove-refused, remove-done}
 use Rattle.decryption.proofs.ThresholdDecrypt.remove_invalid_shares.Statement.{statement}
 use Rattle.decryption.proofs.ThresholdDecrypt.remove_invalid_shares.Tie as tie
 use Rattle.decryption.proofs.ThresholdDecrypt.remove_invalid_shares.Reads as reads

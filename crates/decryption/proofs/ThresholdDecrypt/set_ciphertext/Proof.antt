@@ -1,7 +1,7 @@
 -- Made by `fill` from answers.txt: change that and fill again.
 use mathlib.Core.Path.{sym}
 use borrow.Author.Needs.{needs}
-use Rattle.decryption.proofs.Laws.{set-twice, set-refused, set-invalid, set-verified}
+use Rattle.decryption.proofs.ShareCode.{set-twice, set-refused, set-invalid, set-verified}
 use Rattle.decryption.proofs.ThresholdDecrypt.set_ciphertext.Statement.{statement}
 use Rattle.decryption.proofs.ThresholdDecrypt.set_ciphertext.Tie as tie
 use Rattle.decryption.proofs.ThresholdDecrypt.set_ciphertext.Reads as reads

@@ -2,8 +2,8 @@
 use mathlib.Core.Path.{sym, ap, _∙_}
 use borrow.Author.Needs.{needs}
 use Rattle.steps.specs.Runs.{leaves}
-use Rattle.decryption.proofs.Laws.{hands}
-use Rattle.decryption.proofs.Messages.{store-first, store-faults}
+use Rattle.decryption.proofs.ShareCode.{hands}
+use Rattle.decryption.proofs.MessageCode.{store-first, store-faults}
 use Rattle.decryption.proofs.ThresholdDecrypt.store_share.Statement.{statement}
 use Rattle.decryption.proofs.ThresholdDecrypt.store_share.Tie as tie
 use Rattle.decryption.proofs.ThresholdDecrypt.store_share.Reads as reads

@@ -2,8 +2,8 @@
 use native.Mathlib.Omega.{arith}
 use borrow.Author.Needs.{needs}
 use lib.ListN.{length-set}
-use Rattle.epochwords.proofs.Storing.{within-record, epoch-small}
-use Rattle.epoch.proofs.Dropping.{dropped}
+use Rattle.epochwords.proofs.EntryCode.{within-record, epoch-small}
+use Rattle.epoch.proofs.FinishCode.{dropped}
 use Rattle.epoch.proofs.epoch_state.drop_proposal.Statement.{statement}
 use Rattle.epoch.proofs.epoch_state.drop_proposal.Tie as tie
 use Rattle.epoch.proofs.epoch_state.drop_proposal.Reads as reads

@@ -8,8 +8,8 @@ use Rattle.steps.specs.Answers.{Tape}
 use Rattle.steps.specs.Steps.{out, putAll}
 use Rattle.steps.specs.Runs.{leaves}
 use Rattle.epoch.specs.Epoch.{finishFrom}
-use Rattle.epochwords.proofs.Storing.{all-left}
-use Rattle.epoch.proofs.Dropping.{finish-turn, finish-done}
+use Rattle.epochwords.proofs.EntryCode.{all-left}
+use Rattle.epoch.proofs.FinishCode.{finish-turn, finish-done}
 use Rattle.epoch.proofs.epoch_state.finish.Statement.{statement}
 use Rattle.epoch.proofs.epoch_state.finish.Tie as tie
 use Rattle.epoch.proofs.epoch_state.finish.Reads as reads

@@ -4,7 +4,7 @@ use mathlib.Core.Bool.{true, false}
 use native.Mathlib.Omega.{arith}
 use borrow.Author.Needs.{needs}
 use Rattle.epochwords.specs.Words.{isAccepted}
-use Rattle.epoch.proofs.Dropping.{finish-accepted, finish-other}
+use Rattle.epoch.proofs.FinishCode.{finish-accepted, finish-other}
 use Rattle.epoch.proofs.epoch_state.finish_at.Statement.{statement}
 use Rattle.epoch.proofs.epoch_state.finish_at.Tie as tie
 use Rattle.epoch.proofs.epoch_state.finish_at.Reads as reads

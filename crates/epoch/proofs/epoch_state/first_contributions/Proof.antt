@@ -6,8 +6,8 @@ use borrow.Author.Needs.{needs}
 use lib.ListN.{length, set, length-set}
 use Rattle.subset.specs.Words.{countOf, contributor, dropFrom}
 use Rattle.epoch.specs.Epoch.{firstContributions}
-use Rattle.epochwords.proofs.Storing.{within-record, epoch-small}
-use Rattle.epoch.proofs.Handling.{cut-who, cut-turn, cut-done}
+use Rattle.epochwords.proofs.EntryCode.{within-record, epoch-small}
+use Rattle.epoch.proofs.ContributionCode.{cut-who, cut-turn, cut-done}
 use Rattle.epoch.proofs.epoch_state.first_contributions.Statement.{statement}
 use Rattle.epoch.proofs.epoch_state.first_contributions.Tie as tie
 use Rattle.epoch.proofs.epoch_state.first_contributions.Reads as reads

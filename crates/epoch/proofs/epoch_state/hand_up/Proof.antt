@@ -2,7 +2,7 @@
 use mathlib.Core.Path.{sym, ap, _∙_}
 use borrow.Author.Needs.{needs}
 use Rattle.steps.specs.Runs.{leaves}
-use Rattle.epoch.proofs.Reaching.{up-goes, up-refused, up-failed}
+use Rattle.epoch.proofs.CallCode.{up-goes, up-refused, up-failed}
 use Rattle.epoch.proofs.epoch_state.hand_up.Statement.{statement}
 use Rattle.epoch.proofs.epoch_state.hand_up.Tie as tie
 use Rattle.epoch.proofs.epoch_state.hand_up.Reads as reads

@@ -4,7 +4,7 @@ use native.Mathlib.Omega.{arith}
 use borrow.Author.Needs.{needs}
 use borrow.Author.Tests.{not-true, not-false}
 use Rattle.epoch.specs.Outcomes.{outcomeVerdict}
-use Rattle.epoch.proofs.Handling.{not-done, plain-done, sent-stops, sent-goes}
+use Rattle.epoch.proofs.ContributionCode.{not-done, plain-done, sent-stops, sent-goes}
 use Rattle.epoch.proofs.epoch_state.handle_contribution.Statement.{statement}
 use Rattle.epoch.proofs.epoch_state.handle_contribution.Tie as tie
 use Rattle.epoch.proofs.epoch_state.handle_contribution.Reads as reads

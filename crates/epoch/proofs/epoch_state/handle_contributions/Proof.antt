@@ -1,10 +1,10 @@
 -- Made by `fill` from answers.txt: change that and fill again.
 use mathlib.Core.Path.{sym, ap, _∙_}
 use borrow.Author.Needs.{needs}
-use Rattle.steps.proofs.RunLaws.{leaves-inside}
+use Rattle.steps.proofs.RunsInParts.{leaves-inside}
 use Rattle.epochwords.specs.declared.SubsetHandlingStrategy.the-variants.{Incremental}
 use Rattle.epoch.specs.Epoch.{firstContributions, handleContributions}
-use Rattle.epoch.proofs.Handling.{kept-from}
+use Rattle.epoch.proofs.ContributionCode.{kept-from}
 use Rattle.epoch.proofs.epoch_state.handle_contributions.Statement.{statement}
 use Rattle.epoch.proofs.epoch_state.handle_contributions.Tie as tie
 use Rattle.epoch.proofs.epoch_state.handle_contributions.Reads as reads

@@ -5,7 +5,7 @@ use borrow.Author.Needs.{needs}
 use Rattle.steps.specs.Steps.{putAll}
 use Rattle.steps.specs.Runs.{leaves}
 use Rattle.epochwords.specs.Words.{isAccepted}
-use Rattle.epoch.proofs.Calling.{share-unexpected, share-goes}
+use Rattle.epoch.proofs.EntryCode.{share-unexpected, share-goes}
 use Rattle.epoch.proofs.epoch_state.handle_decryption_share.Statement.{statement}
 use Rattle.epoch.proofs.epoch_state.handle_decryption_share.Tie as tie
 use Rattle.epoch.proofs.epoch_state.handle_decryption_share.Reads as reads

@@ -7,15 +7,15 @@ use lib.ListN.{length}
 use Rattle.steps.specs.Answers.{tapeAt}
 use Rattle.steps.specs.Steps.{out, putAll}
 use Rattle.steps.specs.Runs.{leaves}
-use Rattle.steps.proofs.Runs.{onward-go, onward-stop}
+use Rattle.steps.proofs.RunLaws.{onward-go, onward-stop}
 use Rattle.epochwords.specs.declared.SubsetHandlingStrategy.{SubsetHandlingStrategy}
 use Rattle.subset.specs.Words.{countOf, contributor}
 use Rattle.epochwords.specs.declared.SubsetHandlingStrategy.the-variants.{Incremental}
 use Rattle.epochwords.specs.Shape.{Listed}
 use Rattle.epoch.specs.Outcomes.{outcomeVerdict}
 use Rattle.epoch.specs.Epoch.{handleFrom}
-use Rattle.epochwords.proofs.Storing.{all-left, within-record, epoch-small}
-use Rattle.epoch.proofs.Handling.{not-done, kept-contribution, each-turn, each-done}
+use Rattle.epochwords.proofs.EntryCode.{all-left, within-record, epoch-small}
+use Rattle.epoch.proofs.ContributionCode.{not-done, kept-contribution, each-turn, each-done}
 use Rattle.epoch.proofs.epoch_state.handle_each.Statement.{statement}
 use Rattle.epoch.proofs.epoch_state.handle_each.Tie as tie
 use Rattle.epoch.proofs.epoch_state.handle_each.Reads as reads

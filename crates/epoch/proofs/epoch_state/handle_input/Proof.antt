@@ -5,8 +5,8 @@ use borrow.Author.Needs.{needs}
 use borrow.Author.Tests.{eq-eqb, ne-eqb}
 use Rattle.steps.specs.Steps.{putAll}
 use Rattle.steps.specs.Runs.{leaves}
-use Rattle.epoch.proofs.Listing.{kept-propose}
-use Rattle.epoch.proofs.Reaching.{call-over, call-up}
+use Rattle.epoch.proofs.ListOfProposers.{kept-propose}
+use Rattle.epoch.proofs.CallCode.{call-over, call-up}
 use Rattle.epoch.proofs.epoch_state.handle_input.Statement.{statement}
 use Rattle.epoch.proofs.epoch_state.handle_input.Tie as tie
 use Rattle.epoch.proofs.epoch_state.handle_input.Reads as reads

@@ -5,8 +5,8 @@ use borrow.Author.Needs.{needs}
 use borrow.Author.Tests.{eq-eqb, ne-eqb}
 use Rattle.steps.specs.Steps.{putAll}
 use Rattle.steps.specs.Runs.{leaves}
-use Rattle.epoch.proofs.Listing.{kept-handle}
-use Rattle.epoch.proofs.Reaching.{call-over, call-up}
+use Rattle.epoch.proofs.ListOfProposers.{kept-handle}
+use Rattle.epoch.proofs.CallCode.{call-over, call-up}
 use Rattle.epoch.proofs.epoch_state.handle_message.Statement.{statement}
 use Rattle.epoch.proofs.epoch_state.handle_message.Tie as tie
 use Rattle.epoch.proofs.epoch_state.handle_message.Reads as reads

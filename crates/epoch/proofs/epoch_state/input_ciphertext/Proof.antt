@@ -3,7 +3,7 @@ use mathlib.Core.Path.{sym, ap, _∙_}
 use borrow.Author.Needs.{needs}
 use Rattle.steps.specs.Steps.{putAll}
 use Rattle.steps.specs.Runs.{leaves}
-use Rattle.epoch.proofs.Calling.{input-set, input-invalid, input-twice, input-refused}
+use Rattle.epoch.proofs.EntryCode.{input-set, input-invalid, input-twice, input-refused}
 use Rattle.epoch.proofs.epoch_state.input_ciphertext.Statement.{statement}
 use Rattle.epoch.proofs.epoch_state.input_ciphertext.Tie as tie
 use Rattle.epoch.proofs.epoch_state.input_ciphertext.Reads as reads

@@ -5,7 +5,7 @@ use borrow.Author.Tests.{not-true, not-false}
 use Rattle.steps.specs.Steps.{putAll}
 use Rattle.steps.specs.Runs.{leaves}
 use Rattle.epochwords.specs.Words.{asks}
-use Rattle.epoch.proofs.Calling.{process-left, call-off, call-goes}
+use Rattle.epoch.proofs.EntryCode.{process-left, call-off, call-goes}
 use Rattle.epoch.proofs.epoch_state.input_entry.Statement.{statement}
 use Rattle.epoch.proofs.epoch_state.input_entry.Tie as tie
 use Rattle.epoch.proofs.epoch_state.input_entry.Reads as reads

@@ -1,6 +1,6 @@
 -- Made by `fill` from answers.txt: change that and fill again.
 use borrow.Author.Needs.{needs}
-use Rattle.epoch.proofs.Reaching.{not-ended}
+use Rattle.epoch.proofs.CallCode.{not-ended}
 use Rattle.epoch.proofs.epoch_state.is_done.Statement.{statement}
 use Rattle.epoch.proofs.epoch_state.is_done.Tie as tie
 use Rattle.epoch.proofs.epoch_state.is_done.Reads as reads

@@ -5,7 +5,7 @@ use mathlib.Core.List.{_++_}
 use native.Mathlib.Omega.{arith}
 use borrow.Author.Needs.{needs}
 use lib.ListN.{length, drop, replicate, length-set}
-use Rattle.epoch.proofs.Handling.{zero-turn, zero-done}
+use Rattle.epoch.proofs.ContributionCode.{zero-turn, zero-done}
 use Rattle.epoch.proofs.epoch_state.new_epoch.Statement.{statement}
 use Rattle.epoch.proofs.epoch_state.new_epoch.Tie as tie
 use Rattle.epoch.proofs.epoch_state.new_epoch.Reads as reads

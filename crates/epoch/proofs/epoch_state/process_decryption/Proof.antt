@@ -1,7 +1,7 @@
 -- Made by `fill` from answers.txt: change that and fill again.
 use mathlib.Core.Path.{sym, ap, _∙_}
 use borrow.Author.Needs.{needs}
-use Rattle.epoch.proofs.Calling.{process-nothing, process-complete, process-refused, process-failed}
+use Rattle.epoch.proofs.EntryCode.{process-nothing, process-complete, process-refused, process-failed}
 use Rattle.epoch.proofs.epoch_state.process_decryption.Statement.{statement}
 use Rattle.epoch.proofs.epoch_state.process_decryption.Tie as tie
 use Rattle.epoch.proofs.epoch_state.process_decryption.Reads as reads

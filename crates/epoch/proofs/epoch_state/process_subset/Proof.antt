@@ -6,7 +6,7 @@ use borrow.Author.Tests.{not-true, not-false}
 use Rattle.steps.specs.Steps.{putAll}
 use Rattle.steps.specs.Runs.{leaves}
 use Rattle.epoch.specs.Outcomes.{outcomeVerdict}
-use Rattle.epoch.proofs.Handling.{not-done, subset-waits, subset-stops, subset-goes, subset-done}
+use Rattle.epoch.proofs.ContributionCode.{not-done, subset-waits, subset-stops, subset-goes, subset-done}
 use Rattle.epoch.proofs.epoch_state.process_subset.Statement.{statement}
 use Rattle.epoch.proofs.epoch_state.process_subset.Tie as tie
 use Rattle.epoch.proofs.epoch_state.process_subset.Reads as reads

@@ -3,7 +3,7 @@ use mathlib.Core.Path.{sym, ap, _∙_}
 use borrow.Author.Needs.{needs}
 use Rattle.steps.specs.Steps.{putAll}
 use Rattle.steps.specs.Runs.{leaves}
-use Rattle.epoch.proofs.Reaching.{propose-refused, propose-failed, propose-goes}
+use Rattle.epoch.proofs.CallCode.{propose-refused, propose-failed, propose-goes}
 use Rattle.epoch.proofs.epoch_state.propose.Statement.{statement}
 use Rattle.epoch.proofs.epoch_state.propose.Tie as tie
 use Rattle.epoch.proofs.epoch_state.propose.Reads as reads

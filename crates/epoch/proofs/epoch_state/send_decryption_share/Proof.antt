@@ -3,7 +3,7 @@ use mathlib.Core.Path.{sym, ap, _∙_}
 use borrow.Author.Needs.{needs}
 use Rattle.steps.specs.Steps.{putAll}
 use Rattle.steps.specs.Runs.{leaves}
-use Rattle.epoch.proofs.Calling.{send-refused, send-bad, send-good}
+use Rattle.epoch.proofs.EntryCode.{send-refused, send-bad, send-good}
 use Rattle.epoch.proofs.epoch_state.send_decryption_share.Statement.{statement}
 use Rattle.epoch.proofs.epoch_state.send_decryption_share.Tie as tie
 use Rattle.epoch.proofs.epoch_state.send_decryption_share.Reads as reads

@@ -6,8 +6,8 @@ use borrow.Author.Needs.{needs}
 use lib.ListN.{length}
 use Rattle.steps.specs.Steps.{out, putAll}
 use Rattle.epoch.specs.Epoch.{unexpectedFrom}
-use Rattle.epochwords.proofs.Storing.{all-left}
-use Rattle.epoch.proofs.Dropping.{unexpected-turn, unexpected-done}
+use Rattle.epochwords.proofs.EntryCode.{all-left}
+use Rattle.epoch.proofs.FinishCode.{unexpected-turn, unexpected-done}
 use Rattle.epoch.proofs.epoch_state.unexpected_from.Statement.{statement}
 use Rattle.epoch.proofs.epoch_state.unexpected_from.Tie as tie
 use Rattle.epoch.proofs.epoch_state.unexpected_from.Reads as reads

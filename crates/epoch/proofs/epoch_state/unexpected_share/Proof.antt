@@ -2,7 +2,7 @@
 use mathlib.Core.Path.{sym, _∙_}
 use borrow.Author.Needs.{needs}
 use borrow.Author.Tests.{not-true, not-false}
-use Rattle.epoch.proofs.Dropping.{unexpected-some, unexpected-none}
+use Rattle.epoch.proofs.FinishCode.{unexpected-some, unexpected-none}
 use Rattle.epoch.proofs.epoch_state.unexpected_share.Statement.{statement}
 use Rattle.epoch.proofs.epoch_state.unexpected_share.Tie as tie
 use Rattle.epoch.proofs.epoch_state.unexpected_share.Reads as reads

@@ -2,7 +2,7 @@
 use mathlib.Core.Path.{sym, ap, _∙_}
 use borrow.Author.Needs.{needs}
 use Rattle.steps.specs.Steps.{putAll}
-use Rattle.epoch.proofs.Dropping.{shares-ongoing, shares-other}
+use Rattle.epoch.proofs.FinishCode.{shares-ongoing, shares-other}
 use Rattle.epoch.proofs.epoch_state.unexpected_shares.Statement.{statement}
 use Rattle.epoch.proofs.epoch_state.unexpected_shares.Tie as tie
 use Rattle.epoch.proofs.epoch_state.unexpected_shares.Reads as reads

@@ -8,7 +8,7 @@ use Rattle.steps.specs.Numbers.{batchOutput}
 use Rattle.steps.specs.Steps.{putAll, output}
 use Rattle.steps.specs.Runs.{before, ends, going}
 use Rattle.steps.specs.Bits.{countBits}
-use Rattle.steps.proofs.Runs.{onward-go, onward-refused}
+use Rattle.steps.proofs.RunLaws.{onward-go, onward-refused}
 use Rattle.epochwords.specs.Batch.{outputBatchIn, entriesFrom}
 use Rattle.epochwords.specs.BatchOutcomes.{readVerdict}
 use Rattle.epochwords.proofs.BatchCode.{readable-ones, batch-out}

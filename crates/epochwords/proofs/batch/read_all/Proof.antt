@@ -7,7 +7,7 @@ use lib.ListN.{length}
 use Rattle.steps.specs.Answers.{tapeAt}
 use Rattle.steps.specs.Steps.{out, putAll}
 use Rattle.steps.specs.Runs.{leaves}
-use Rattle.steps.proofs.Runs.{onward-go, onward-stop}
+use Rattle.steps.proofs.RunLaws.{onward-go, onward-stop}
 use Rattle.epochwords.specs.Batch.{readFrom}
 use Rattle.epochwords.specs.BatchOutcomes.{readVerdict}
 use Rattle.epochwords.proofs.BatchCode.{all-left, record-here, reads-turn, reads-over, not-read}

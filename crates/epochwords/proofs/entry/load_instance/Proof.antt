@@ -6,7 +6,7 @@ use native.Mathlib.Omega.{arith}
 use borrow.Author.Needs.{needs}
 use lib.ListN.{length, replicate}
 use Rattle.epochwords.specs.Words.{sharesFrom, loadInstance}
-use Rattle.epochwords.proofs.Storing.{within-record, epoch-small, load-turn, loaded}
+use Rattle.epochwords.proofs.EntryCode.{within-record, epoch-small, load-turn, loaded}
 use Rattle.epochwords.proofs.entry.load_instance.Statement.{statement}
 use Rattle.epochwords.proofs.entry.load_instance.Tie as tie
 use Rattle.epochwords.proofs.entry.load_instance.Reads as reads

@@ -1,7 +1,7 @@
 -- Made by `fill` from answers.txt: change that and fill again.
 use native.Mathlib.Omega.{arith}
 use borrow.Author.Needs.{needs}
-use Rattle.epochwords.proofs.Storing.{within-record, epoch-small}
+use Rattle.epochwords.proofs.EntryCode.{within-record, epoch-small}
 use Rattle.epochwords.proofs.entry.load_tag.Statement.{statement}
 use Rattle.epochwords.proofs.entry.load_tag.Tie as tie
 use Rattle.epochwords.proofs.entry.load_tag.Reads as reads

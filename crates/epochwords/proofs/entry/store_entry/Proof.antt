@@ -4,7 +4,7 @@ use native.Mathlib.Omega.{arith}
 use borrow.Author.Needs.{needs}
 use lib.ListN.{length-set}
 use Rattle.epochwords.specs.Words.{storeEntry}
-use Rattle.epochwords.proofs.Storing.{within-record, epoch-small}
+use Rattle.epochwords.proofs.EntryCode.{within-record, epoch-small}
 use Rattle.epochwords.proofs.entry.store_entry.Statement.{statement}
 use Rattle.epochwords.proofs.entry.store_entry.Tie as tie
 use Rattle.epochwords.proofs.entry.store_entry.Reads as reads

@@ -5,7 +5,7 @@ use native.Mathlib.Omega.{arith}
 use borrow.Author.Needs.{needs}
 use lib.ListN.{length, length-set}
 use Rattle.epochwords.specs.Words.{setShares}
-use Rattle.epochwords.proofs.Storing.{all-left, within-record, epoch-small, store-turn, store-done}
+use Rattle.epochwords.proofs.EntryCode.{all-left, within-record, epoch-small, store-turn, store-done}
 use Rattle.epochwords.proofs.entry.store_shares.Statement.{statement}
 use Rattle.epochwords.proofs.entry.store_shares.Tie as tie
 use Rattle.epochwords.proofs.entry.store_shares.Reads as reads

@@ -5,7 +5,7 @@ use mathlib.Core.Bool.{false≢true}
 use borrow.Author.Needs.{needs}
 use Rattle.steps.specs.Runs.{leaves}
 use Rattle.proposal.specs.Proposal.{asksBroadcast, afterValue}
-use Rattle.proposal.proofs.Moves.{ends-with, value-missing, value-votes, value-output}
+use Rattle.proposal.proofs.ProposalCode.{ends-with, value-missing, value-votes, value-output}
 use Rattle.proposal.proofs.ProposalState.after_value.Statement.{statement}
 use Rattle.proposal.proofs.ProposalState.after_value.Tie as tie
 use Rattle.proposal.proofs.ProposalState.after_value.Reads as reads

@@ -3,10 +3,10 @@ use mathlib.Core.Path.{sym, ap, _∙_}
 use borrow.Author.Needs.{needs}
 use borrow.Author.Tests.{not-true, not-false}
 use Rattle.steps.specs.Runs.{leaves}
-use Rattle.steps.proofs.Runs.{onward-go, onward-refused, onward-failed}
+use Rattle.steps.proofs.RunLaws.{onward-go, onward-refused, onward-failed}
 use Rattle.proposal.specs.Proposal.{movedTo, afterAgreement}
 use Rattle.proposal.specs.Outcomes.{toldVerdict}
-use Rattle.proposal.proofs.Moves.{moves, ends-with, moves-to, agreement-off, agreement-on}
+use Rattle.proposal.proofs.ProposalCode.{moves, ends-with, moves-to, agreement-off, agreement-on}
 use Rattle.proposal.proofs.ProposalState.handle_agreement.Statement.{statement}
 use Rattle.proposal.proofs.ProposalState.handle_agreement.Tie as tie
 use Rattle.proposal.proofs.ProposalState.handle_agreement.Reads as reads

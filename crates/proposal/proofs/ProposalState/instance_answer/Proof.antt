@@ -3,7 +3,7 @@ use mathlib.Core.Path.{sym, ap, _∙_}
 use borrow.Author.Needs.{needs}
 use Rattle.steps.specs.Steps.{putAll}
 use Rattle.steps.specs.Runs.{leaves}
-use Rattle.proposal.proofs.Moves.{parts-beside, told-refused, told-failed, told-parts}
+use Rattle.proposal.proofs.ProposalCode.{parts-beside, told-refused, told-failed, told-parts}
 use Rattle.proposal.proofs.ProposalState.instance_answer.Statement.{statement}
 use Rattle.proposal.proofs.ProposalState.instance_answer.Tie as tie
 use Rattle.proposal.proofs.ProposalState.instance_answer.Reads as reads

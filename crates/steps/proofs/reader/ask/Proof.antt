@@ -2,7 +2,7 @@
 use mathlib.Core.Path.{sym, _∙_}
 use borrow.Author.Tests.{eq-eqb, ne-eqb}
 use Rattle.steps.specs.Answers.{ask}
-use Rattle.steps.proofs.Laws.{asked-end, asked-got, asked-other}
+use Rattle.steps.proofs.ChainLaws.{asked-end, asked-got, asked-other}
 use borrow.Author.Needs.{needs}
 use Rattle.steps.proofs.reader.ask.Statement.{statement}
 use Rattle.steps.proofs.reader.ask.Tie as tie

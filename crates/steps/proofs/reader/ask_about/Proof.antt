@@ -2,7 +2,7 @@
 use mathlib.Core.Path.{sym, _∙_}
 use borrow.Author.Tests.{not-true, not-false}
 use Rattle.steps.specs.Answers.{askAbout}
-use Rattle.steps.proofs.Laws.{asked-end, asked-got, asked-other}
+use Rattle.steps.proofs.ChainLaws.{asked-end, asked-got, asked-other}
 use borrow.Author.Needs.{needs}
 use Rattle.steps.proofs.reader.ask_about.Statement.{statement}
 use Rattle.steps.proofs.reader.ask_about.Tie as tie

@@ -1,7 +1,7 @@
 -- Made by `fill` from answers.txt: change that and fill again.
 use mathlib.Core.Path.{sym, _∙_}
 use native.Mathlib.Omega.{arith}
-use Rattle.steps.proofs.Laws.{head-off, head-on, off-at-zero, off-past, on-record, link-up, link-end}
+use Rattle.steps.proofs.ChainLaws.{head-off, head-on, off-at-zero, off-past, on-record, link-up, link-end}
 use borrow.Author.Needs.{needs}
 use Rattle.steps.proofs.reader.peek.Statement.{statement}
 use Rattle.steps.proofs.reader.peek.Tie as tie

@@ -6,7 +6,7 @@ use borrow.Author.Needs.{needs}
 use Rattle.steps.specs.Answers.{chain}
 use Rattle.steps.specs.Steps.{out}
 use Rattle.steps.specs.Runs.{leaves}
-use Rattle.steps.proofs.Laws.{chain-shorter}
+use Rattle.steps.proofs.ChainLaws.{chain-shorter}
 use Rattle.steps.proofs.Parts.{partsAt, parts-turn, parts-stop, parts-end}
 use Rattle.steps.proofs.reader.read_parts.Statement.{statement}
 use Rattle.steps.proofs.reader.read_parts.Tie as tie

@@ -4,7 +4,7 @@ use borrow.Author.Needs.{needs}
 use borrow.Author.Tests.{not-true, not-false}
 use Rattle.steps.specs.Steps.{putAll}
 use Rattle.steps.specs.Runs.{leaves}
-use Rattle.subset.proofs.Rounds.{broadcast-silent, broadcast-left}
+use Rattle.subset.proofs.SubsetCode.{broadcast-silent, broadcast-left}
 use Rattle.subset.proofs.subset.broadcast_at.Statement.{statement}
 use Rattle.subset.proofs.subset.broadcast_at.Tie as tie
 use Rattle.subset.proofs.subset.broadcast_at.Reads as reads

@@ -2,7 +2,7 @@
 use mathlib.Core.Path.{sym, ap, _∙_}
 use borrow.Author.Needs.{needs}
 use Rattle.steps.specs.Runs.{leaves}
-use Rattle.subset.proofs.Rounds.{then-left, message-onward}
+use Rattle.subset.proofs.SubsetCode.{then-left, message-onward}
 use Rattle.subset.proofs.subset.handle_message.Statement.{statement}
 use Rattle.subset.proofs.subset.handle_message.Tie as tie
 use Rattle.subset.proofs.subset.handle_message.Reads as reads

@@ -4,7 +4,7 @@ use borrow.Author.Needs.{needs}
 use borrow.Author.Tests.{not-true, not-false, ltb-true}
 use Rattle.steps.specs.Steps.{putAll}
 use Rattle.steps.specs.Runs.{leaves}
-use Rattle.subset.proofs.Rounds.{then-left, propose-off, propose-on}
+use Rattle.subset.proofs.SubsetCode.{then-left, propose-off, propose-on}
 use Rattle.subset.proofs.subset.propose.Statement.{statement}
 use Rattle.subset.proofs.subset.propose.Tie as tie
 use Rattle.subset.proofs.subset.propose.Reads as reads

@@ -2,7 +2,7 @@
 use mathlib.Core.Path.{_∙_}
 use borrow.Author.Needs.{needs}
 use Rattle.subset.specs.Subset.{contributed}
-use Rattle.subset.proofs.Rounds.{no-output}
+use Rattle.subset.proofs.SubsetCode.{no-output}
 use Rattle.subset.proofs.subset.store_transition.Statement.{statement}
 use Rattle.subset.proofs.subset.store_transition.Tie as tie
 use Rattle.subset.proofs.subset.store_transition.Reads as reads

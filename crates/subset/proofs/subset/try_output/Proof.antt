@@ -4,9 +4,9 @@ use borrow.Author.Needs.{needs}
 use native.Mathlib.Omega.{arith}
 use Rattle.steps.specs.Steps.{putAll}
 use Rattle.steps.specs.Runs.{leaves}
-use Rattle.steps.proofs.Runs.{onward-go, onward-refused, onward-failed}
+use Rattle.steps.proofs.RunLaws.{onward-go, onward-refused, onward-failed}
 use Rattle.subset.specs.Outcomes.{passingVerdict}
-use Rattle.subset.proofs.Rounds.{ending, ends-done, ends-ongoing, output-off, output-on}
+use Rattle.subset.proofs.SubsetCode.{ending, ends-done, ends-ongoing, output-off, output-on}
 use Rattle.subset.proofs.subset.try_output.Statement.{statement}
 use Rattle.subset.proofs.subset.try_output.Tie as tie
 use Rattle.subset.proofs.subset.try_output.Reads as reads

@@ -7,11 +7,11 @@ use lib.ListN.{length}
 use Rattle.steps.specs.Answers.{tapeAt}
 use Rattle.steps.specs.Steps.{out, putAll}
 use Rattle.steps.specs.Runs.{leaves}
-use Rattle.steps.proofs.Runs.{onward-go, onward-stop}
+use Rattle.steps.proofs.RunLaws.{onward-go, onward-stop}
 use Rattle.subset.specs.Subset.{voteFrom}
 use Rattle.subset.specs.Outcomes.{passingVerdict}
-use Rattle.subset.proofs.Stores.{all-left}
-use Rattle.subset.proofs.Rounds.{not-passed, vote-turn, vote-done}
+use Rattle.subset.proofs.WordsCode.{all-left}
+use Rattle.subset.proofs.SubsetCode.{not-passed, vote-turn, vote-done}
 use Rattle.subset.proofs.subset.vote_all.Statement.{statement}
 use Rattle.subset.proofs.subset.vote_all.Tie as tie
 use Rattle.subset.proofs.subset.vote_all.Reads as reads

@@ -4,7 +4,7 @@ use borrow.Author.Needs.{needs}
 use borrow.Author.Tests.{not-true, not-false}
 use Rattle.steps.specs.Steps.{putAll}
 use Rattle.steps.specs.Runs.{leaves}
-use Rattle.subset.proofs.Rounds.{agreement-silent, agreement-left}
+use Rattle.subset.proofs.SubsetCode.{agreement-silent, agreement-left}
 use Rattle.subset.proofs.subset.vote_false.Statement.{statement}
 use Rattle.subset.proofs.subset.vote_false.Tie as tie
 use Rattle.subset.proofs.subset.vote_false.Reads as reads

@@ -3,7 +3,7 @@ use mathlib.Core.Path.{sym, ap, _∙_}
 use borrow.Author.Needs.{needs}
 use Rattle.steps.specs.Steps.{putAll}
 use Rattle.steps.specs.Runs.{leaves}
-use Rattle.subset.proofs.Rounds.{votes-on, votes-off}
+use Rattle.subset.proofs.SubsetCode.{votes-on, votes-off}
 use Rattle.subset.proofs.subset.votes.Statement.{statement}
 use Rattle.subset.proofs.subset.votes.Tie as tie
 use Rattle.subset.proofs.subset.votes.Reads as reads

@@ -4,7 +4,7 @@ use borrow.Author.Needs.{needs}
 use borrow.Author.Tests.{lt-ltb, le-ltb}
 use lib.ListN.{length-set}
 use Rattle.subset.specs.Words.{addContribution}
-use Rattle.subset.proofs.Frames.{within-epoch}
+use Rattle.subset.proofs.ProposalStored.{within-epoch}
 use Rattle.subset.proofs.words.add_contribution.Statement.{statement}
 use Rattle.subset.proofs.words.add_contribution.Tie as tie
 use Rattle.subset.proofs.words.add_contribution.Reads as reads

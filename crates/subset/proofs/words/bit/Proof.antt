@@ -1,6 +1,6 @@
 -- Made by `fill` from answers.txt: change that and fill again.
 use borrow.Author.Needs.{needs}
-use Rattle.subset.proofs.Stores.{shifted}
+use Rattle.subset.proofs.WordsCode.{shifted}
 use Rattle.subset.proofs.words.bit.Statement.{statement}
 use Rattle.subset.proofs.words.bit.Tie as tie
 use Rattle.subset.proofs.words.bit.Reads as reads

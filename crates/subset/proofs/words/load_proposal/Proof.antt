@@ -3,7 +3,7 @@ use mathlib.Core.Path.{_∙_}
 use native.Mathlib.Omega.{arith}
 use borrow.Author.Needs.{needs}
 use Rattle.subset.specs.Words.{loadProposal}
-use Rattle.subset.proofs.Frames.{within-epoch}
+use Rattle.subset.proofs.ProposalStored.{within-epoch}
 use Rattle.subset.proofs.words.load_proposal.Statement.{statement}
 use Rattle.subset.proofs.words.load_proposal.Tie as tie
 use Rattle.subset.proofs.words.load_proposal.Reads as reads

@@ -7,7 +7,7 @@ use borrow.Author.Needs.{needs}
 use Rattle.steps.specs.Bits.{bitsFrom}
 use Rattle.subset.specs.Words.{proposalTag}
 use Rattle.subset.specs.Bits.{tagIn, proposalsIn}
-use Rattle.subset.proofs.Stores.{before-end, bits-turn, bits-done, bits-small, all-left}
+use Rattle.subset.proofs.WordsCode.{before-end, bits-turn, bits-done, bits-small, all-left}
 use Rattle.subset.proofs.words.proposals_in.Statement.{statement}
 use Rattle.subset.proofs.words.proposals_in.Tie as tie
 use Rattle.subset.proofs.words.proposals_in.Reads as reads

@@ -1,6 +1,6 @@
 -- Made by `fill` from answers.txt: change that and fill again.
 use native.Mathlib.Omega.{arith}
-use Rattle.subset.proofs.Stores.{place-small}
+use Rattle.subset.proofs.WordsCode.{place-small}
 use borrow.Author.Needs.{needs}
 use Rattle.subset.proofs.words.record_at.Statement.{statement}
 use Rattle.subset.proofs.words.record_at.Tie as tie

@@ -3,7 +3,7 @@ use native.Mathlib.Omega.{arith}
 use borrow.Author.Needs.{needs}
 use lib.ListN.{length-set}
 use Rattle.subset.specs.Words.{storeProposal}
-use Rattle.subset.proofs.Frames.{within-epoch}
+use Rattle.subset.proofs.ProposalStored.{within-epoch}
 use Rattle.subset.proofs.words.store_proposal.Statement.{statement}
 use Rattle.subset.proofs.words.store_proposal.Tie as tie
 use Rattle.subset.proofs.words.store_proposal.Reads as reads

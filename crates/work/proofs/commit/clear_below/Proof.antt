@@ -8,7 +8,7 @@ use Rattle.state.specs.State.{ahead, currentEpoch}
 use Rattle.state.specs.Shape.{StateWords}
 use Rattle.state.proofs.WordsCode.{header-inside, without-kept}
 use Rattle.work.specs.HoneyBadger.{clearBelow}
-use Rattle.work.proofs.Clearing.{clear-none}
+use Rattle.work.proofs.ClearingIsSkipping.{clear-none}
 use Rattle.work.proofs.CommitCode.{clear-turn, clear-over}
 use Rattle.work.proofs.commit.clear_below.Statement.{statement}
 use Rattle.work.proofs.commit.clear_below.Tie as tie

@@ -1,6 +1,6 @@
 -- Made by `fill` from answers.txt: change that and fill again.
 use borrow.Author.Needs.{needs}
-use Rattle.work.proofs.RunParts.{built-there, built-refused, built-failed, built-new}
+use Rattle.work.proofs.RunCode.{built-there, built-refused, built-failed, built-new}
 use Rattle.work.proofs.honey_badger.build.Statement.{statement}
 use Rattle.work.proofs.honey_badger.build.Tie as tie
 use Rattle.work.proofs.honey_badger.build.Reads as reads

@@ -3,7 +3,7 @@ use borrow.Author.Needs.{needs}
 use Rattle.state.specs.State.{nodes}
 use Rattle.state.proofs.WordsCode.{header-inside}
 use Rattle.state.proofs.RangeCode.{ok-words, ok-schedule}
-use Rattle.work.proofs.RunParts.{net-network, net-nodes}
+use Rattle.work.proofs.RunCode.{net-network, net-nodes}
 use Rattle.work.proofs.honey_badger.call_body.Statement.{statement}
 use Rattle.work.proofs.honey_badger.call_body.Tie as tie
 use Rattle.work.proofs.honey_badger.call_body.Reads as reads

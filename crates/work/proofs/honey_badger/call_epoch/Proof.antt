@@ -5,13 +5,13 @@ use borrow.Author.Needs.{needs}
 use Rattle.steps.specs.Answers.{tapeAt}
 use Rattle.steps.specs.Steps.{putAll}
 use Rattle.epoch.specs.Outcomes.{outcomeVerdict}
-use Rattle.epoch.proofs.Handling.{not-done}
+use Rattle.epoch.proofs.ContributionCode.{not-done}
 use Rattle.state.specs.State.{nodes}
 use Rattle.state.proofs.WordsCode.{header-inside}
 use Rattle.state.proofs.RangeCode.{ok-words}
 use Rattle.work.specs.Work.{built}
 use Rattle.work.specs.Shape.{bodyOf}
-use Rattle.work.proofs.RunParts.{built-listed, call-stops, call-goes}
+use Rattle.work.proofs.RunCode.{built-listed, call-stops, call-goes}
 use Rattle.work.proofs.honey_badger.call_epoch.Statement.{statement}
 use Rattle.work.proofs.honey_badger.call_epoch.Tie as tie
 use Rattle.work.proofs.honey_badger.call_epoch.Reads as reads

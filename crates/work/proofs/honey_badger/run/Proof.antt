@@ -4,13 +4,13 @@ use native.Mathlib.Omega.{arith}
 use borrow.Author.Needs.{needs}
 use Rattle.steps.specs.Answers.{tapeAt}
 use Rattle.epoch.specs.Outcomes.{outcomeVerdict}
-use Rattle.epoch.proofs.Handling.{not-done}
+use Rattle.epoch.proofs.ContributionCode.{not-done}
 use Rattle.state.proofs.WordsCode.{header-inside}
 use Rattle.state.proofs.RangeCode.{ok-words}
 use Rattle.work.specs.Shape.{bodyOf}
-use Rattle.work.proofs.WorkLeaves.{work-stops}
-use Rattle.work.proofs.BatchTurns.{batches-refused, batches-done}
-use Rattle.work.proofs.RunParts.{run-goes}
+use Rattle.work.proofs.RunLeaves.{work-stops}
+use Rattle.work.proofs.BatchTurnCode.{batches-refused, batches-done}
+use Rattle.work.proofs.RunCode.{run-goes}
 use Rattle.work.proofs.honey_badger.run.Statement.{statement}
 use Rattle.work.proofs.honey_badger.run.Tie as tie
 use Rattle.work.proofs.honey_badger.run.Reads as reads

@@ -2,7 +2,7 @@
 use native.Mathlib.Omega.{arith}
 use borrow.Author.Needs.{needs}
 use Rattle.state.proofs.WordsCode.{place-inside, state-small, part-words, words-epoch}
-use Rattle.work.proofs.BatchTurns.{beside-own, beside-other}
+use Rattle.work.proofs.BatchTurnCode.{beside-own, beside-other}
 use Rattle.work.proofs.honey_badger.try_output_at.Statement.{statement}
 use Rattle.work.proofs.honey_badger.try_output_at.Tie as tie
 use Rattle.work.proofs.honey_badger.try_output_at.Reads as reads

@@ -6,7 +6,7 @@ use borrow.Author.Needs.{needs}
 use borrow.Author.Tests.{not-true, not-false}
 use Rattle.steps.specs.Steps.{putAll}
 use Rattle.steps.specs.Runs.{going, ends}
-use Rattle.steps.proofs.Runs.{onward-go, onward-refused}
+use Rattle.steps.proofs.RunLaws.{onward-go, onward-refused}
 use Rattle.epochwords.specs.BatchOutcomes.{handedVerdict}
 use Rattle.work.specs.Shape.{tryOutputBatch}
 use Rattle.work.proofs.honey_badger.try_output_batch.Statement.{statement}

@@ -10,7 +10,7 @@ use Rattle.steps.specs.Runs.{leaves}
 use Rattle.state.specs.State.{nodes, ahead, currentEpoch}
 use Rattle.state.proofs.WordsCode.{header-inside}
 use Rattle.work.specs.Work.{beside, batchesFrom}
-use Rattle.work.proofs.BatchTurns.{tried-goes, tried-stops, went-out, none-left}
+use Rattle.work.proofs.BatchTurnCode.{tried-goes, tried-stops, went-out, none-left}
 use Rattle.work.proofs.honey_badger.try_output_batches.Statement.{statement}
 use Rattle.work.proofs.honey_badger.try_output_batches.Tie as tie
 use Rattle.work.proofs.honey_badger.try_output_batches.Reads as reads

@@ -1,7 +1,7 @@
 -- Made by `fill` from answers.txt: change that and fill again.
 use borrow.Author.Needs.{needs}
 use Rattle.engine.specs.Shape.{numbersOf}
-use Rattle.engine.proofs.Creating.{numbers-off, numbers-joined}
+use Rattle.engine.proofs.CreateCode.{numbers-off, numbers-joined}
 use Rattle.engine.proofs.create.Numbers.are_ok.Statement.{statement}
 use Rattle.engine.proofs.create.Numbers.are_ok.Tie as tie
 use Rattle.engine.proofs.create.Numbers.are_ok.Reads as reads

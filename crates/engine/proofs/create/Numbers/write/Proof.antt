@@ -4,7 +4,7 @@ use borrow.Author.Needs.{needs}
 use lib.ListN.{length-set}
 use Rattle.state.proofs.Window.{header-first}
 use Rattle.engine.specs.Shape.{numbersOf}
-use Rattle.engine.proofs.Creating.{header-written}
+use Rattle.engine.proofs.CreateCode.{header-written}
 use Rattle.engine.proofs.create.Numbers.write.Statement.{statement}
 use Rattle.engine.proofs.create.Numbers.write.Tie as tie
 use Rattle.engine.proofs.create.Numbers.write.Reads as reads

@@ -1,5 +1,5 @@
 -- Made by `fill` from answers.txt: change that and fill again.
-use Rattle.steps.proofs.Laws.{fault-put}
+use Rattle.steps.proofs.ChainLaws.{fault-put}
 use borrow.Author.Needs.{needs}
 use Rattle.steps.proofs.step.Step.fault.Statement.{statement}
 use Rattle.steps.proofs.step.Step.fault.Tie as tie

@@ -1,5 +1,5 @@
 -- Made by `fill` from answers.txt: change that and fill again.
-use Rattle.steps.proofs.Laws.{message-put}
+use Rattle.steps.proofs.ChainLaws.{message-put}
 use borrow.Author.Needs.{needs}
 use Rattle.steps.proofs.step.Step.message.Statement.{statement}
 use Rattle.steps.proofs.step.Step.message.Tie as tie

@@ -1,5 +1,5 @@
 -- Made by `fill` from answers.txt: change that and fill again.
-use Rattle.steps.proofs.Laws.{output-put}
+use Rattle.steps.proofs.ChainLaws.{output-put}
 use borrow.Author.Needs.{needs}
 use Rattle.steps.proofs.step.Step.output.Statement.{statement}
 use Rattle.steps.proofs.step.Step.output.Tie as tie
