@@ -12,7 +12,7 @@ use Rattle.steps.specs.Table.{within}
 use Rattle.steps.specs.Answers.{Tape}
 use Rattle.steps.specs.Steps.{message, fault}
 use Rattle.steps.specs.Runs.{Run}
-use Rattle.steps.proofs.Logic.{Hand, hand, nothing, Terms, anything, Logic, here, there, test}
+use Rattle.steps.proofs.Logic.{Hand, hand, nothing, Terms, anything, Logic, here, there, test, fail, move, put, hear, next, tell}
 use Rattle.decryption.specs.Decrypt.{withCiphertext, withShares, withInput, withEnd, isSome, isSender, countShares, setCiphertext, isShareValid, checkShare, removeFrom, ownShare, startWith, combine, tryWith, startDecryption, tryOutput, storeShare, handleMessage}
 use Rattle.decryption.specs.declared.ThresholdDecrypt.{ThresholdDecrypt}
 
@@ -61,44 +61,44 @@ module _ (T : Terms) (L : Logic T ThresholdDecrypt) where
       → Keeps unlessValid (setCiphertext proposer ciphertext)
   unfolding setCiphertext
   set-keeps proposer ciphertext kind number step n td p =
-      test L (isSome (td .ciphertext)) (λ _. L .fails _ _ _ 25 td p number)
-      (λ _. L .asksAbout _ _ none n 9 proposer td p _ kind (λ a b q.
+      test L (isSome (td .ciphertext)) (λ _. fail L number)
+      (λ _. hear L n 9 proposer kind (λ a b q.
       test L (eqb a 0)
-      (λ _. L .goes _ _ _ false td q refl (omega arith))
-      (λ _. L .steps _ _ none none (n + 1) td _ q _ (step td) (L .goes _ _ _ true _ q refl (omega arith)))))
+      (λ _. tell L refl (omega arith))
+      (λ _. move L (step td) (tell L refl (omega arith)))))
 
   -- by what was found
-  pub by-valid : (A : Type 0) (f : A → Hand) (n : ℕ) (valid : Bool) (td : ThresholdDecrypt) (q : Tape) (r s : Run ThresholdDecrypt A)
+  pub by-valid : {A : Type 0} {f : A → Hand} {td : ThresholdDecrypt} {q : Tape} {r s : Run ThresholdDecrypt A} (n : ℕ) (valid : Bool)
       → L .Good A f (hand none n) td q r → L .Good A f (hand none (n + 1)) td q s → L .Good A f (unlessValid n valid) td q (cond valid r s)
-  by-valid A f n true td q r s g h = g
-  by-valid A f n false td q r s g h = h
+  by-valid n true g h = g
+  by-valid n false g h = h
 
-  not-valid : (A : Type 0) (f : A → Hand) (n : ℕ) (valid : Bool) (td : ThresholdDecrypt) (q : Tape) (r s : Run ThresholdDecrypt A)
+  not-valid : {A : Type 0} {f : A → Hand} {td : ThresholdDecrypt} {q : Tape} {r s : Run ThresholdDecrypt A} (n : ℕ) (valid : Bool)
       → L .Good A f (hand none (n + 1)) td q r → L .Good A f (hand none n) td q s → L .Good A f (unlessValid n valid) td q (cond (not valid) r s)
-  not-valid A f n true td q r s g h = h
-  not-valid A f n false td q r s g h = g
+  not-valid n true g h = h
+  not-valid n false g h = g
 
   module _ (R : Checks) where
     pub valid-keeps : (i : ℕ) → Keeps unlessValid (isShareValid i)
     unfolding isShareValid
     valid-keeps i n td p =
-        test L (eqb (td .ciphertext) 0) (λ _. L .goes _ _ _ true td p refl (omega arith))
-        (λ _. L .asksAbout _ _ none n 10 i td p _ (R .reads 10 refl) (λ a b q. L .goes _ _ _ (not (eqb a 0)) td q refl (unless-few n (not (eqb a 0)))))
+        test L (eqb (td .ciphertext) 0) (λ _. tell L refl (omega arith))
+        (λ _. hear L n 10 i (R .reads 10 refl) (λ a b q. tell L refl (unless-few n (not (eqb a 0)))))
 
     check-keeps : (i : ℕ) → Silent (checkShare i)
     unfolding checkShare
     check-keeps i n td p =
         test L (isSender td i)
-        (λ _. L .goesOn _ _ _ _ _ td p _ _ (valid-keeps i n td p) (λ valid td q.
-        not-valid _ _ n valid td q _ _
-        (L .writes _ _ none n _ td q _ (R .faults 7 i refl) (there L tt td _ q (R .removed td i)))
+        (λ _. next L (valid-keeps i n td p) (λ valid td q.
+        not-valid n valid
+        (put L n (R .faults 7 i refl) (there L tt td _ q (R .removed td i)))
         (here L tt td q)))
         (λ _. here L tt td p)
 
     pub remove-keeps : (m i : ℕ) → Silent (removeFrom m i)
     unfolding removeFrom
     remove-keeps zero i n td p = here L tt td p
-    remove-keeps (suc m) i n td p = L .goesOn _ _ _ _ _ td p _ _ (check-keeps i n td p) (λ _ td q. remove-keeps m (i + 1) 0 td q)
+    remove-keeps (suc m) i n td p = next L (check-keeps i n td p) (λ _ td q. remove-keeps m (i + 1) 0 td q)
 
   module _ (net : NetworkInfo) (proposer : ℕ) (R : Combines) where
     -- where k hands up f of its value
@@ -107,22 +107,22 @@ module _ (T : Terms) (L : Logic T ThresholdDecrypt) where
     own-keeps f k h n td p =
         test L (isValidator net && net .«has_key»)
         (λ _. L .asks _ _ none n 11 td p _ (R .checks .reads 11 refl) (λ a b q u.
-        L .writes _ _ none n _ td q _ (R .sends proposer b) (L .steps _ _ none none n td _ q _ (R .checks .share td (net .«our_id») b u) (h n _ q))))
+        put L n (R .sends proposer b) (move L (R .checks .share td (net .«our_id») b u) (h n _ q))))
         (λ _. h n td p)
 
     with-start : (f : Option ℕ → Hand) (k : Does) → f none ≡ hand none 0 → Keeps (λ _. f) k → Keeps (λ _. f) (startWith net proposer k)
     unfolding startWith
     with-start f k e h n td p =
-        test L (td .«had_input») (λ _. L .goes _ _ _ none td p (rw e) (rw e (omega arith)))
-        (λ _. test L (eqb (td .ciphertext) 0) (λ _. L .fails _ _ _ 24 td p (R .number))
-        (λ _. L .goesOn _ _ _ _ _ td p _ _ (remove-keeps (R .checks) 16 0 n td p) (λ _ td q.
-        L .steps _ _ none none 0 td _ q _ (R .input td) (own-keeps f k h 0 (withInput td) q))))
+        test L (td .«had_input») (λ _. tell L (rw e) (rw e (omega arith)))
+        (λ _. test L (eqb (td .ciphertext) 0) (λ _. fail L (R .number))
+        (λ _. next L (remove-keeps (R .checks) 16 0 n td p) (λ _ td q.
+        move L (R .input td) (own-keeps f k h 0 (withInput td) q))))
 
     combine-keeps : Keeps (λ _. plaintext) combine
     unfolding combine
     combine-keeps n td p =
         L .asksText _ _ n td p _ (R .text) (λ a b q _.
-        test L (eqb a 0) (λ _. L .fails _ _ _ 24 td q (R .number)) (λ _. L .goes _ _ _ (some b) td q refl (omega arith)))
+        test L (eqb a 0) (λ _. fail L (R .number)) (λ _. tell L refl (omega arith)))
 
     -- where k hands up nothing
     with-try : (k : Does) → Silent k → Keeps (λ _. plaintext) (tryWith net k)
@@ -132,7 +132,7 @@ module _ (T : Terms) (L : Logic T ThresholdDecrypt) where
         test L (td .terminated) (λ _. stays)
         (λ _. test L (leb (countShares (td .shares)) (net .«num_faulty»)) (λ _. stays)
         (λ _. test L (eqb (td .ciphertext) 0) (λ _. stays)
-        (λ _. L .goesOn _ _ nothing _ _ td p _ _ (L .steps _ _ none none n td _ p _ (R .end td) (h n (withEnd td) p)) (λ _ td q. combine-keeps 0 td q))))
+        (λ _. next L {f = nothing} (move L (R .end td) (h n (withEnd td) p)) (λ _ td q. combine-keeps 0 td q))))
 
     pub start-keeps : Keeps (λ _. plaintext) (startDecryption net proposer)
     unfolding startDecryption
@@ -149,17 +149,17 @@ module _ (T : Terms) (L : Logic T ThresholdDecrypt) where
     store-keeps sender share u n td p =
         let step = R .checks .share td sender share u in
         test L (isSender td sender)
-        (λ _. L .writes _ _ none n _ td p _ (R .checks .faults 6 sender refl) (L .steps _ _ none none n td _ p _ step (L .goes _ _ _ none _ p refl (omega arith))))
-        (λ _. L .steps _ _ none none (n + 1) td _ p _ step (try-keeps (n + 1) _ p))
+        (λ _. put L n (R .checks .faults 6 sender refl) (move L step (tell L refl (omega arith))))
+        (λ _. move L step (try-keeps (n + 1) _ p))
 
     pub handle-keeps : (sender share : ℕ) → T .Handle share → (n : ℕ) (td : ThresholdDecrypt) (p : Tape)
         → L .Good _ plaintext (hand none (n + 1)) td p (handleMessage net proposer sender share td p)
     unfolding handleMessage
     handle-keeps sender share u n td p =
-        test L (td .terminated) (λ _. L .goes _ _ _ none td p refl (omega arith))
-        (λ _. L .goesOn _ _ _ _ _ td p _ _ (valid-keeps (R .checks) sender (n + 1) td p) (λ valid td q.
-        not-valid _ _ (n + 1) valid td q _ _
-        (L .writes _ _ none (n + 1) _ td q _ (R .checks .faults 7 sender refl) (L .goes _ _ _ none td q refl (omega arith)))
+        test L (td .terminated) (λ _. tell L refl (omega arith))
+        (λ _. next L (valid-keeps (R .checks) sender (n + 1) td p) (λ valid td q.
+        not-valid (n + 1) valid
+        (put L (n + 1) (R .checks .faults 7 sender refl) (tell L refl (omega arith)))
         (store-keeps sender share u n td q)))
 
 -- where it makes no difference what is read and written, and every step is allowed

@@ -11,7 +11,7 @@ use Rattle.steps.specs.declared.network_info.NetworkInfo.{NetworkInfo}
 use Rattle.steps.specs.Answers.{Tape}
 use Rattle.steps.specs.Steps.{fault}
 use Rattle.steps.specs.Runs.{Verdict, going, refused, failed, Run, ends, before, inside}
-use Rattle.steps.proofs.Logic.{Hand, hand, nothing, Terms, anything, Logic, here, there, test, perhaps}
+use Rattle.steps.proofs.Logic.{Hand, hand, nothing, Terms, anything, Logic, here, there, test, perhaps, fail, move, put, hear, next, tell}
 use Rattle.steps.proofs.StateKept.{holding, still}
 use Rattle.decryption.specs.declared.ThresholdDecrypt.{ThresholdDecrypt}
 use Rattle.decryption.specs.Decrypt.{isSender, withCiphertext}
@@ -36,9 +36,9 @@ module _ (T : Terms) (D : Logic T ThresholdDecrypt) (net : NetworkInfo) (R : Inp
   pub input-keeps : (p value : ℕ) → T .Handle value → (n : ℕ) (td : ThresholdDecrypt) (t : Tape) → D .Good _ plaintext (hand none n) td t (inputCiphertext net p value td t)
   unfolding inputCiphertext
   input-keeps p value u n td t =
-      D .goesOn _ _ _ _ _ td t _ _ (set-keeps T D p value (R .combines .checks .reads 9 refl) (R .number) (λ td. R .ciphertext td value u) n td t) (λ verified td q.
-      by-valid T D _ _ n verified td q _ _ (start-keeps T D net p (R .combines) n td q)
-      (D .writes _ _ none n _ td q _ (R .invalid p) (D .goes _ _ _ none td q refl (omega arith))))
+      next D (set-keeps T D p value (R .combines .checks .reads 9 refl) (R .number) (λ td. R .ciphertext td value u) n td t) (λ verified td q.
+      by-valid T D n verified (start-keeps T D net p (R .combines) n td q)
+      (put D n (R .invalid p) (tell D refl (omega arith))))
 
 -- THE WORDS of an epoch of N proposers
 module _ (T : Terms) (D : Logic T ThresholdDecrypt) (L : Logic T (List ℕ)) (N : ℕ) where
@@ -87,7 +87,7 @@ module _ (T : Terms) (D : Logic T ThresholdDecrypt) (L : Logic T (List ℕ)) (ne
     process-keeps : (p n : ℕ) (w : List ℕ) (t : Tape) (r : Run ThresholdDecrypt (Option ℕ)) → D .Good _ plaintext (hand none n) (loadEntry N w p) t r
         → L .Good _ nothing (hand none n) w t (processDecryption net p w r)
     unfolding processDecryption
-    process-keeps p n w t r h = L .goesOn _ _ _ _ _ w t _ _ (R .entered p n w t r h) (λ o w q. L .steps _ _ o none 0 w w q _ (R .dropped w o) (here L tt w q))
+    process-keeps p n w t r h = next L (R .entered p n w t r h) (λ o w q. move L (R .dropped w o) (here L tt w q))
 
     pub entry-keeps : (p : ℕ) (call : Does) (n : ℕ) (w : List ℕ) (t : Tape) → D .Good _ plaintext (hand none n) (loadEntry N w p) t (call (loadEntry N w p) t)
         → L .Good _ nothing (hand none n) w t (callEntry net p call w t)
@@ -99,7 +99,7 @@ module _ (T : Terms) (D : Logic T ThresholdDecrypt) (L : Logic T (List ℕ)) (ne
         → L .Good _ nothing (hand none (n + 1)) w t (handleDecryptionShare net sender p share w t)
     unfolding handleDecryptionShare
     share-message-keeps combines late sender p share u n w t =
-        test L (isComplete w && not (isAccepted w p)) (λ _. L .writes _ _ none n _ w t _ (late sender) (here L tt w t))
+        test L (isComplete w && not (isAccepted w p)) (λ _. put L n (late sender) (here L tt w t))
         (λ _. entry-keeps p _ (n + 1) w t (share-keeps T D net p combines sender share u n _ t))
 
   -- A CONTRIBUTION
@@ -107,8 +107,8 @@ module _ (T : Terms) (D : Logic T ThresholdDecrypt) (L : Logic T (List ℕ)) (ne
     send-keeps : (p value : ℕ) → T .Handle value → (n : ℕ) (w : List ℕ) (t : Tape) → L .Good _ nothing (hand none n) w t (sendDecryptionShare net p value w t)
     unfolding sendDecryptionShare
     send-keeps p value u n w t =
-        L .asksAbout _ _ none n 8 p w t _ (R .reads) (λ a b q.
-        test L (eqb a 0) (λ _. L .writes _ _ none n _ w q _ (R .unreadable p) (here L tt w q))
+        hear L n 8 p (R .reads) (λ a b q.
+        test L (eqb a 0) (λ _. put L n (R .unreadable p) (here L tt w q))
         (λ _. entry-keeps (R .entries) p _ (n + 1) w q (input-keeps T D net (R .inputs) p value u (n + 1) _ q)))
 
     module _ (strategy : SubsetHandlingStrategy) (encrypted : Bool) where
@@ -116,7 +116,7 @@ module _ (T : Terms) (D : Logic T ThresholdDecrypt) (L : Logic T (List ℕ)) (ne
           → L .Good _ nothing (hand none n) w t (handleContribution net strategy encrypted p value w t)
       unfolding handleContribution
       contribution-keeps p value i u n w t =
-          L .goesOn _ _ nothing _ _ w t _ _
+          next L {f = nothing}
           (test L encrypted (λ _. send-keeps p value u n w t) (λ _. there L tt w _ t (R .opened p value w u)))
           (λ _ w q. there L tt w _ q (R .accepted p w i))
 
@@ -124,7 +124,7 @@ module _ (T : Terms) (D : Logic T ThresholdDecrypt) (L : Logic T (List ℕ)) (ne
       unfolding handleFrom
       handle-from-keeps zero i n w t = here L tt w t
       handle-from-keeps (suc m) i n w t =
-          R .listed i n w t _ (λ e u. L .goesOn _ _ _ _ _ w t _ _ (contribution-keeps _ _ e u n w t) (λ _ w q. handle-from-keeps m (i + 1) 0 w q))
+          R .listed i n w t _ (λ e u. next L (contribution-keeps _ _ e u n w t) (λ _ w q. handle-from-keeps m (i + 1) 0 w q))
 
   -- DONE: a fault 2 for each sender at most
   module _ (R : Finishes T D L N) where
@@ -145,17 +145,17 @@ module _ (T : Terms) (D : Logic T ThresholdDecrypt) (L : Logic T (List ℕ)) (ne
     finish-at-keeps : (p k n : ℕ) → k + N ≤ n → (w : List ℕ) (t : Tape) → L .Good (Unit {0}) (λ _. hand none k) (hand none n) w t (finishAt net p w t)
     unfolding finishAt
     finish-at-keeps p k n l w t =
-        test L (isAccepted w p) (λ _. L .steps _ _ none none n w _ t _ (R .finished p w) (ends-with n _ (omega arith)))
-        (λ _. shares-keep (λ _. hand none k) k w t _ (λ m e. L .steps _ _ none none m w _ t _ (R .unexpected p w) (ends-with m _ e)) N _ n l)
+        test L (isAccepted w p) (λ _. move L (R .finished p w) (ends-with n _ (omega arith)))
+        (λ _. shares-keep (λ _. hand none k) k w t _ (λ m e. move L (R .unexpected p w) (ends-with m _ e)) N _ n l)
       where
         ends-with : (m : ℕ) (u : List ℕ) → k ≤ m → L .Good (Unit {0}) (λ _. hand none k) (hand none m) u t (ends (going tt) u t)
-        ends-with m u e = L .goes _ _ _ tt u t refl e
+        ends-with m u e = tell L refl e
 
     pub finish-keeps : (m p : ℕ) (w : List ℕ) (t : Tape) → L .Good _ nothing (hand none (m * N)) w t (finishFrom net m p w t)
     unfolding finishFrom
     finish-keeps zero p w t = here L tt w t
     finish-keeps (suc m) p w t =
-        L .goesOn _ _ (λ _. hand none (m * N)) _ _ w t _ _ (finish-at-keeps p (m * N) (suc m * N) (omega arith) w t) (λ _ w q. finish-keeps m (p + 1) w q)
+        next L {f = λ _. hand none (m * N)} (finish-at-keeps p (m * N) (suc m * N) (omega arith) w t) (λ _ w q. finish-keeps m (p + 1) w q)
 
   -- THE SUBSET IN ITS EPOCH
   module _ (P : Logic T ProposalState) (R : Rules T D L N P) (strategy : SubsetHandlingStrategy) (encrypted : Bool) where
@@ -170,9 +170,9 @@ module _ (T : Terms) (D : Logic T ThresholdDecrypt) (L : Logic T (List ℕ)) (ne
     subset-keeps : (finishes : Bool) (w : List ℕ) (t : Tape) → L .Good _ nothing (hand none most) w t (processSubset net strategy encrypted finishes w t)
     unfolding processSubset
     subset-keeps finishes w t =
-        L .goesOn _ _ (λ _. hand none most) _ _ w t _ _
+        next L {f = λ _. hand none most}
         (L .spares _ 0 most most w t _ (omega arith) (test L (handlesNow strategy finishes) (λ _. contributions-keep 0 w t) (λ _. here L tt w t)))
-        (λ _ w q. test L finishes (λ _. L .steps _ _ none none most w _ q _ (R .done w) (finish-keeps (R .finishes) N 0 _ q)) (λ _. here L tt w q))
+        (λ _ w q. test L finishes (λ _. move L (R .done w) (finish-keeps (R .finishes) N 0 _ q)) (λ _. here L tt w q))
 
     handed-keeps : (v : Verdict Bool) (n : ℕ) (w : List ℕ) (t : Tape) (r : Run (List ℕ) Bool) → L .Good _ nothing (hand none n) w t r → L .Good _ nothing (hand none n) w t (handedUp net strategy encrypted (countOf w) v r)
     unfolding handedUp
@@ -185,14 +185,14 @@ module _ (T : Terms) (D : Logic T ThresholdDecrypt) (L : Logic T (List ℕ)) (ne
     unfolding callSubset
     call-keeps call n l w t h =
         test L (isComplete w) (λ _. here L tt w t)
-        (λ _. L .goesOn _ _ (λ _. hand none most) _ _ w t _ _ (L .spares _ 0 most n w t _ (omega arith) (handed-keeps (call w t .verdict) 0 w t _ h)) (λ finishes w q. subset-keeps finishes w q))
+        (λ _. next L {f = λ _. hand none most} (L .spares _ 0 most n w t _ (omega arith) (handed-keeps (call w t .verdict) 0 w t _ h)) (λ finishes w q. subset-keeps finishes w q))
 
     -- THE EPOCH'S TWO CALLS
     pub propose-keeps : T .Kind 2 → T .Number 21 → T .Number 22 → (w : List ℕ) (t : Tape) → L .Good _ nothing (hand none (most + 1)) w t (propose net strategy encrypted w t)
     unfolding propose
     propose-keeps kind bincode input w t =
         L .asks _ _ none (most + 1) 2 w t _ kind (λ a b q _.
-        test L (eqb a 0) (λ _. L .fails _ _ _ 21 w q bincode)
+        test L (eqb a 0) (λ _. fail L bincode)
         (λ _. call-keeps _ _ (omega arith) w q (propose-subset-keeps T P L net (R .subset) 22 input 0 w q)))
 
     -- a message about proposer p; a share is a handle

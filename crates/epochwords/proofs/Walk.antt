@@ -11,7 +11,7 @@ use Rattle.steps.specs.Answers.{Tape}
 use Rattle.steps.specs.Steps.{fault, output}
 use Rattle.steps.specs.Runs.{Run, before}
 use Rattle.steps.specs.Bits.{hasBit}
-use Rattle.steps.proofs.Logic.{hand, nothing, Terms, Logic, here, test, one, perhaps}
+use Rattle.steps.proofs.Logic.{hand, nothing, Terms, Logic, here, test, one, perhaps, put, hear, next}
 use Rattle.epochwords.specs.Batch.{isRead, readAt, readFrom, entriesFrom, outputBatchIn}
 
 -- what a batch reads and writes
@@ -25,14 +25,14 @@ module _ (T : Terms) (L : Logic T (List ℕ)) (R : Batches T) (size : ℕ) where
   unfolding readAt
   read-at-keeps p readable n w t =
       test L (isRead size w p)
-      (λ _. L .asksAbout _ _ none n 13 p w t _ (R .reads) (λ a b q.
-      test L (eqb a 0) (λ _. L .writes _ _ none n _ w q _ (R .faults p) (here L readable w q)) (λ _. here L _ w q)))
+      (λ _. hear L n 13 p (R .reads) (λ a b q.
+      test L (eqb a 0) (λ _. put L n (R .faults p) (here L readable w q)) (λ _. here L _ w q)))
       (λ _. here L readable w t)
 
   read-keeps : (m p readable n : ℕ) (w : List ℕ) (t : Tape) → L .Good _ nothing (hand none n) w t (readFrom size m p readable w t)
   unfolding readFrom
   read-keeps zero p readable n w t = here L readable w t
-  read-keeps (suc m) p readable n w t = L .goesOn _ _ _ _ _ w t _ _ (read-at-keeps p readable n w t) (λ readable w q. read-keeps m (p + 1) readable 0 w q)
+  read-keeps (suc m) p readable n w t = next L (read-at-keeps p readable n w t) (λ readable w q. read-keeps m (p + 1) readable 0 w q)
 
   entries-keep : (m p readable n : ℕ) → m ≤ n → (u w : List ℕ) (t : Tape) (r : Run (List ℕ) (Unit {0})) → ((n : ℕ) → L .Good _ nothing (hand none n) w t r)
       → L .Good _ nothing (hand none n) w t (before (entriesFrom size m p readable u) r)
@@ -45,5 +45,5 @@ module _ (T : Terms) (L : Logic T (List ℕ)) (R : Batches T) (size : ℕ) where
   pub batch-keeps : (n epoch : ℕ) (w : List ℕ) (t : Tape) → L .Good _ nothing (hand none (1 + n)) w t (outputBatchIn size n epoch w t)
   unfolding outputBatchIn
   batch-keeps n epoch w t =
-      L .goesOn _ _ (λ _. hand none (1 + n)) _ _ w t _ _ (L .spares _ 0 (1 + n) (1 + n) w t _ (omega arith) (read-keeps n 0 0 0 w t)) (λ readable w q.
+      next L {f = λ _. hand none (1 + n)} (L .spares _ 0 (1 + n) (1 + n) w t _ (omega arith) (read-keeps n 0 0 0 w t)) (λ readable w q.
       one L (1 + n) _ w q _ (omega arith) (R .outputs 1 _ _ refl) (entries-keep n 0 readable (1 + n - 1) (omega arith) w w q _ (λ k. here L tt w q)))

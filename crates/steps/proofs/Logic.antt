@@ -87,6 +87,27 @@ module _ {T : Terms} {S : Type 0} (L : Logic T S) where
   pub there : {A : Type 0} {n : ℕ} (a : A) (s t : S) (p : Tape) → L .Step none s none t → L .Good A nothing (hand none n) s p (ends (going a) t p)
   there a s t p e = L .steps _ nothing none none _ s t p _ e (here a t p)
 
+  -- the rules with what a goal tells left out
+  pub tell : {A : Type 0} {f : A → Hand} {h : Hand} {a : A} {s : S} {p : Tape} → f a .handle ≡ h .handle → f a .entries ≤ h .entries → L .Good A f h s p (ends (going a) s p)
+  tell e l = L .goes _ _ _ _ _ _ e l
+
+  pub fail : {A : Type 0} {f : A → Hand} {h : Hand} {n : ℕ} {s : S} {p : Tape} → T .Number n → L .Good A f h s p (ends (failed n) s p)
+  fail e = L .fails _ _ _ _ _ _ e
+
+  pub move : {A : Type 0} {f : A → Hand} {x y : Option ℕ} {n : ℕ} {s t : S} {p : Tape} {r : Run S A} → L .Step x s y t → L .Good A f (hand y n) t p r → L .Good A f (hand x n) s p r
+  move e g = L .steps _ _ _ _ _ _ _ _ _ e g
+
+  pub put : {A : Type 0} {f : A → Hand} {x : Option ℕ} (n : ℕ) {e : Entry} {s : S} {p : Tape} {r : Run S A} → T .Writes e → L .Good A f (hand x n) s p r → L .Good A f (hand x (n + 1)) s p (before (e ∷ []) r)
+  put n w g = L .writes _ _ _ n _ _ _ _ w g
+
+  pub hear : {A : Type 0} {f : A → Hand} {x : Option ℕ} (n kind who : ℕ) {s : S} {p : Tape} {k : ℕ → ℕ → Tape → Run S A} → T .Kind kind
+      → ((a b : ℕ) (q : Tape) → L .Good A f (hand x (n + 1)) s q (k a b q)) → L .Good A f (hand x n) s p (heard (askAbout p kind who) s k)
+  hear n kind who e g = L .asksAbout _ _ _ n kind who _ _ _ e g
+
+  pub next : {A B : Type 0} {f : A → Hand} {g : B → Hand} {h : Hand} {s : S} {p : Tape} {r : Run S A} {k : A → S → Tape → Run S B} → L .Good A f h s p r
+      → ((a : A) (t : S) (q : Tape) → L .Good B g (f a) t q (k a t q)) → L .Good B g h s p (onward r k)
+  next g m = L .goesOn _ _ _ _ _ _ _ _ _ g m
+
   -- by a test
   pub test : {A : Type 0} {f : A → Hand} {h : Hand} {s : S} {p : Tape} (x : Bool) {r t : Run S A} → (x ≡ true → L .Good A f h s p r) → (x ≡ false → L .Good A f h s p t) → L .Good A f h s p (cond x r t)
   test x {r} {t} g k = either (L .Good _ _ _ _ _) x r t g k

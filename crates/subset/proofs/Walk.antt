@@ -14,7 +14,7 @@ use Rattle.steps.specs.declared.reader.Content.the-variants.{Broadcast, Agreeme
 use Rattle.steps.specs.Network.{isValidator, numCorrect}
 use Rattle.steps.specs.Answers.{Tape}
 use Rattle.steps.specs.Runs.{Run, inside}
-use Rattle.steps.proofs.Logic.{hand, nothing, Terms, Logic, here, there, test}
+use Rattle.steps.proofs.Logic.{hand, nothing, Terms, Logic, here, there, test, move, next}
 use Rattle.proposal.specs.declared.ProposalState.{ProposalState}
 use Rattle.subset.specs.Words.{isDecided, decidedAt, loadProposal, storeProposal}
 use Rattle.proposal.proofs.Walk.{contribution, Moves, agreement-keeps, broadcast-keeps}
@@ -43,7 +43,7 @@ module _ (T : Terms) (P : Logic T ProposalState) (L : Logic T (List ℕ)) (net :
       → L .Good _ nothing (hand none n) w t (atProposal net error p w r)
   unfolding atProposal
   at-keeps p n w t r i h =
-      L .goesOn _ _ _ _ _ w t _ _ (R .stored p n w t r i h) (λ o w q. L .steps _ _ o none 0 w _ q _ (R .added p w o i) (here L tt _ q))
+      next L (R .stored p n w t r i h) (λ o w q. move L (R .added p w o i) (here L tt _ q))
 
   broadcast-at-keeps : (kind p : ℕ) → T .Kind kind → T .Index p → Does (broadcastAt net error kind p)
   unfolding broadcastAt
@@ -63,7 +63,7 @@ module _ (T : Terms) (P : Logic T ProposalState) (L : Logic T (List ℕ)) (net :
   unfolding voteFrom
   vote-from-keeps zero i l n w t = here L tt w t
   vote-from-keeps (suc m) i l n w t =
-      L .goesOn _ _ _ _ _ w t _ _ (agreement-at-keeps 7 i (R .moves .reads 7 refl) (R .index i (omega arith)) n w t) (λ _ w q. vote-from-keeps m (i + 1) (omega arith) 0 w q)
+      next L (agreement-at-keeps 7 i (R .moves .reads 7 refl) (R .index i (omega arith)) n w t) (λ _ w q. vote-from-keeps m (i + 1) (omega arith) 0 w q)
 
   votes-keeps : Does (votes net error)
   unfolding votes
@@ -73,18 +73,18 @@ module _ (T : Terms) (P : Logic T ProposalState) (L : Logic T (List ℕ)) (net :
   unfolding tryOutput
   try-keeps n w t =
       test L (isDecided w || ltb (countAccepted N w) (numCorrect net)) (λ _. here L _ w t)
-      (λ _. L .goesOn _ _ _ _ _ w t _ _ (votes-keeps n w t) (λ _ w q.
+      (λ _. next L (votes-keeps n w t) (λ _ w q.
       test L (allComplete N w) (λ _. there L _ w _ q (R .decided w)) (λ _. here L _ w q)))
 
   pub propose-keeps : Does (propose net error)
   unfolding propose
   propose-keeps n w t =
       test L (isValidator net)
-      (λ e. L .goesOn _ _ _ _ _ w t _ _ (broadcast-at-keeps 3 (net .«our_id») (R .moves .reads 3 refl) (R .index _ (ltb-true _ _ e)) n w t) (λ _ w q. try-keeps 0 w q))
+      (λ e. next L (broadcast-at-keeps 3 (net .«our_id») (R .moves .reads 3 refl) (R .index _ (ltb-true _ _ e)) n w t) (λ _ w q. try-keeps 0 w q))
       (λ _. here L _ w t)
 
   -- a message for proposer p
   pub handle-keeps : (content : Content) (p : ℕ) → T .Index p → Does (handleMessage net error content p)
   unfolding handleMessage
-  handle-keeps Broadcast p i n w t = L .goesOn _ _ _ _ _ w t _ _ (broadcast-at-keeps 4 p (R .moves .reads 4 refl) i n w t) (λ _ w q. try-keeps 0 w q)
-  handle-keeps Agreement p i n w t = L .goesOn _ _ _ _ _ w t _ _ (agreement-at-keeps 5 p (R .moves .reads 5 refl) i n w t) (λ _ w q. try-keeps 0 w q)
+  handle-keeps Broadcast p i n w t = next L (broadcast-at-keeps 4 p (R .moves .reads 4 refl) i n w t) (λ _ w q. try-keeps 0 w q)
+  handle-keeps Agreement p i n w t = next L (agreement-at-keeps 5 p (R .moves .reads 5 refl) i n w t) (λ _ w q. try-keeps 0 w q)
