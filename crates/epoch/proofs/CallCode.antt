@@ -2,7 +2,8 @@
 use Prim.Native.Nat.{ℕ}
 use mathlib.Core.Path.{_≡_, refl, sym, ap, _∙_}
 use mathlib.Core.List.{List, [], _∷_}
-use mathlib.Core.Bool.{Bool, true, false}
+use mathlib.Core.Bool.{Bool, true, false, cond}
+use lib.Dec.{eqb}
 use lib.ListN.{getD}
 use borrow.Author.Tests.{eq-eqb, ne-eqb}
 use types.Run.{OneOf, miss}
@@ -12,7 +13,7 @@ use Rattle.steps.specs.declared.reader.Answer.{Answer}
 use Rattle.steps.specs.declared.reader.Answer.the-variants.{Got, Refused as NoAnswer}
 use Rattle.steps.specs.Answers.{Tape, asked, ask}
 use Rattle.steps.specs.Steps.{Entry, Out, putAll}
-use Rattle.steps.specs.Runs.{Verdict, going, refused, failed, Run, ends, onwardAs, onward, Left, leaves}
+use Rattle.steps.specs.Runs.{Verdict, going, refused, failed, Run, ends, onwardAs, onward, heardAs, heard, Left, leaves}
 use Rattle.steps.proofs.RunLaws.{leaves-before, heard-got, heard-none}
 use Rattle.subset.specs.declared.subset.SubsetOutcome.{SubsetOutcome}
 use Rattle.subset.specs.declared.subset.SubsetOutcome.the-variants.{Ongoing, Done as SubsetDone, Refused as NotHandled, Failed as FailedHandling}
@@ -23,7 +24,11 @@ use Rattle.epochwords.specs.declared.SubsetHandlingStrategy.{SubsetHandlingStra
 use Rattle.epoch.specs.declared.epoch_state.Outcome.the-variants.{Refused, Failed}
 use Rattle.epochwords.specs.Words.{isComplete}
 use Rattle.epoch.specs.Epoch.{firstContributions, processSubset, handedUp, callSubset, propose}
-use Rattle.epoch.specs.Outcomes.{leftOf, upAs, endsSubset}
+use Rattle.epoch.specs.declared.epoch_state.SubsetInput.{SubsetInput}
+use Rattle.epoch.specs.declared.epoch_state.SubsetInput.the-variants.{Proposal, Message}
+use Rattle.epoch.specs.Outcomes.{leftOf, upAs, endsSubset, serialised, subsetCall, subsetRun, Names}
+use Rattle.epochwords.specs.Shape.{Listed}
+use Rattle.epoch.proofs.ListOfProposers.{kept-propose, kept-handle}
 use Rattle.subset.proofs.subset.SubsetOutcome.{the-type as subset-type}
 
 -- the way of `is_done` that is taken for all but one
@@ -80,16 +85,42 @@ module _ (net : NetworkInfo) (strategy : SubsetHandlingStrategy) (encrypted : Bo
         go refused = refl
         go (failed n) = refl
 
-  -- A PROPOSAL, by the answer on whether it was serialised
-  module _ (w : List ℕ) (t : Tape) (x : Answer) (q : Tape) (k : asked x q ≡ ask t 2) where
-    pub propose-refused : x ≡ NoAnswer → propose net strategy encrypted w t ≡ ends refused w q
-    unfolding propose
-    propose-refused e = heard-none _ x q w _ k e
+  -- WHAT COMES TO THE SUBSET is serialised first, where that is asked
+  pub subset-onward : (input : SubsetInput) (w : List ℕ) (t : Tape)
+      → subsetRun net strategy encrypted input w t ≡ onward (serialised input w t) (λ _ w q. callSubset net strategy encrypted (subsetCall net input) w q)
+  unfolding propose heard heardAs onward onwardAs
+  subset-onward (Message content p) w t = refl
+  subset-onward Proposal w t = go (ask t 2 .answer) (ask t 2 .tape)
+    where
+      k : Unit {0} → List ℕ → Tape → Run (List ℕ) (Unit {0})
+      k a w q = callSubset net strategy encrypted (proposeSubset net 22) w q
 
-    pub propose-failed : (a b : ℕ) → x ≡ Got a b → a ≡ 0 → propose net strategy encrypted w t ≡ ends (failed 21) w q
-    unfolding propose
-    propose-failed a b e z = heard-got _ x q w _ k a b e ∙ rw (eq-eqb _ _ z)
+      says : Verdict (Unit {0}) → Tape → Run (List ℕ) (Unit {0})
+      says v q = ends v w q
 
-    pub propose-goes : (a b : ℕ) → x ≡ Got a b → (a ≡ 0 → ⊥) → propose net strategy encrypted w t ≡ callSubset net strategy encrypted (proposeSubset net 22) w q
-    unfolding propose
-    propose-goes a b e z = heard-got _ x q w _ k a b e ∙ rw (ne-eqb _ _ z)
+      by : (z : Bool) (q : Tape) → cond z (says (failed 21) q) (k tt w q) ≡ onward (cond z (says (failed 21) q) (says (going tt) q)) k
+      by true q = refl
+      by false q = refl
+
+      go : (x : Answer) (q : Tape)
+          → heardAs x w q (λ a b q. cond (eqb a 0) (says (failed 21) q) (k tt w q))
+          ≡ onward (heardAs x w q (λ a b q. cond (eqb a 0) (says (failed 21) q) (says (going tt) q))) k
+      go (Got a b) q = by (eqb a 0) q
+      go NoAnswer q = refl
+
+-- what comes keeps the list of contributions
+pub kept-input : (net : NetworkInfo) (input : SubsetInput) (w : List ℕ) (t : Tape) (o : Out) (d : Left (List ℕ) Bool) → Names input (net .«num_nodes»)
+    → d ≡ leaves o (subsetCall net input w t) → Listed (net .«num_nodes») w → Listed (net .«num_nodes») (d .state)
+kept-input net Proposal w t o d l e h = kept-propose net _ w t o d e h
+kept-input net (Message content p) w t o d l e h = kept-handle net _ content p w t o d l e h
+
+-- A PROPOSAL IS SERIALISED, by the answer
+module _ (w : List ℕ) (t : Tape) (x : Answer) (q : Tape) (k : asked x q ≡ ask t 2) where
+  pub serialised-refused : x ≡ NoAnswer → ends refused w q ≡ serialised Proposal w t
+  serialised-refused e = sym (heard-none _ x q w _ k e)
+
+  pub serialised-failed : (a b : ℕ) → x ≡ Got a b → a ≡ 0 → ends (failed 21) w q ≡ serialised Proposal w t
+  serialised-failed a b e z = sym (heard-got _ x q w _ k a b e ∙ rw (eq-eqb _ _ z))
+
+  pub serialised-goes : (a b : ℕ) → x ≡ Got a b → (a ≡ 0 → ⊥) → ends (going tt) w q ≡ serialised Proposal w t
+  serialised-goes a b e z = sym (heard-got _ x q w _ k a b e ∙ rw (ne-eqb _ _ z))

@@ -14,14 +14,11 @@ ghost use Rattle.decryption.specs.Decrypt.{handleMessage as handleShare};
 ghost use Rattle.decryption.specs.Outcomes.{left as leftHandled};
 ghost use Rattle.epochwords.specs.Shape.{EpochWords, Listed};
 ghost use Rattle.subset.specs.Words.{countOf};
-ghost use Rattle.steps.specs.Numbers.{inputSubset, handleSubsetMessage};
-ghost use Rattle.subset.specs.Subset.{propose as proposeSubset, handleMessage as handleSubset};
-ghost use Rattle.subset.specs.Outcomes.{handledVerdict};
+ghost use Rattle.subset.specs.Outcomes.{leftHandled as leftSubset, handledVerdict};
 ghost use Rattle.epochwords.specs.declared.SubsetHandlingStrategy.{SubsetHandlingStrategy};
-ghost use Rattle.epoch.specs.Outcomes.{calledVerdict, leftOf, leftDone, left, leftEntered, upAs, endsSubset};
+ghost use Rattle.epoch.specs.Outcomes.{calledVerdict, leftOf, leftDone, left, leftEntered, upAs, endsSubset, serialised, subsetCall, subsetRun, inputRun, Names, Comes};
 ghost use Rattle.epochwords.specs.Words.{accept, loadDecryption};
-ghost use Rattle.epoch.specs.Epoch.{processDecryption, callEntry, inputCiphertext, sendDecryptionShare, handleDecryptionShare, unexpectedFrom, unexpectedShares, subsetComplete, proposalDropped, finishAt, finishFrom, firstContributions, handlesNow, handleContribution, handleFrom, handleContributions, processSubset, callSubset, propose, handleMessageContent, newEpoch};
-use crate::MessageContent;
+ghost use Rattle.epoch.specs.Epoch.{processDecryption, callEntry, inputCiphertext, sendDecryptionShare, handleDecryptionShare, unexpectedFrom, unexpectedShares, subsetComplete, proposalDropped, finishAt, finishFrom, firstContributions, handlesNow, handleContribution, handleFrom, handleContributions, processSubset, newEpoch};
 use decryption::Handled;
 use decryption::SetOutcome;
 use decryption::ThresholdDecrypt;
@@ -72,6 +69,18 @@ pub enum Outcome {
 pub struct Ran {
     pub outcome: Outcome,
     pub step: Step,
+}
+
+// What comes to the subset: the own proposal, or a message for a proposer.
+pub enum SubsetInput {
+    Proposal,
+    Message(Content, usize),
+}
+
+// What comes to an epoch: something for its subset, or a share: sender, proposer, share.
+pub enum Input {
+    Subset(SubsetInput),
+    Share(usize, usize, u64),
 }
 
 // What a call of a decryption entry comes to: no plaintext yet, the plaintext, or as above.
@@ -657,154 +666,49 @@ fn hand_up(
     }
 }
 
-// `SubsetState::handle_input`: the own proposal goes to the subset, unless that has completed.
-fn handle_input(
-    epoch: &mut [u64],
-    net: NetworkInfo,
-    strategy: SubsetHandlingStrategy,
-    encrypted: bool,
-    answers: &[u64],
-    place: &mut usize,
-    step: Step,
-    words: &mut [u64],
-) -> Ran
-    requires { ⌜ Network net × EpochWords (net .«num_nodes») (now epoch) × Listed (net .«num_nodes») (now epoch) ⌝ }
-    ensures { λ r. ⌜ left (now (epoch .exit)) r (tapeAt (now (answers .entry)) (now (place .exit))) (now (words .exit))
-        ≡ leaves (out step (now (words .entry))) (callSubset net strategy encrypted (proposeSubset net inputSubset) (now (epoch .entry)) (tapeAt (now (answers .entry)) (now (place .entry)))) ⌝ }
+// The own proposal is serialised outside before the subset gets it.
+fn serialise(input: SubsetInput, answers: &[u64], place: &mut usize) -> Outcome
+    ensures { λ r. ⌜ ((w : List ℕ) (o : Out) → leftOf w r (tapeAt (now (answers .entry)) (now (place .exit))) o
+        ≡ leaves o (serialised input w (tapeAt (now (answers .entry)) (now (place .entry))))) ⌝ }
 {
-    if epoch[STATUS_AT] == STATUS_COMPLETE {
-        return Ran {
-            outcome: Outcome::Done,
-            step,
-        };
-    }
-    let count = epoch[COUNT_AT] as usize;
-    let called = subset::subset::propose(epoch, net, INPUT_SUBSET, answers, place, step, words);
-    let outcome = called.outcome;
-    let s = called.step;
-    hand_up(
-        epoch,
-        net,
-        strategy,
-        encrypted,
-        count,
-        outcome,
-        answers,
-        place,
-        s,
-        words,
-    )
-}
-
-// `SubsetState::handle_message`: a message goes to the subset, unless that has completed.
-fn handle_message(
-    epoch: &mut [u64],
-    net: NetworkInfo,
-    strategy: SubsetHandlingStrategy,
-    encrypted: bool,
-    content: Content,
-    p: usize,
-    answers: &[u64],
-    place: &mut usize,
-    step: Step,
-    words: &mut [u64],
-) -> Ran
-    requires { ⌜ Network net × EpochWords (net .«num_nodes») (now epoch) × Listed (net .«num_nodes») (now epoch) × (p < net .«num_nodes») ⌝ }
-    ensures { λ r. ⌜ left (now (epoch .exit)) r (tapeAt (now (answers .entry)) (now (place .exit))) (now (words .exit))
-        ≡ leaves (out step (now (words .entry))) (callSubset net strategy encrypted (handleSubset net handleSubsetMessage content p) (now (epoch .entry)) (tapeAt (now (answers .entry)) (now (place .entry)))) ⌝ }
-{
-    if epoch[STATUS_AT] == STATUS_COMPLETE {
-        return Ran {
-            outcome: Outcome::Done,
-            step,
-        };
-    }
-    let count = epoch[COUNT_AT] as usize;
-    let called = subset::subset::handle_message(
-        epoch,
-        net,
-        HANDLE_SUBSET_MESSAGE,
-        content,
-        p,
-        answers,
-        place,
-        step,
-        words,
-    );
-    let outcome = called.outcome;
-    let s = called.step;
-    hand_up(
-        epoch,
-        net,
-        strategy,
-        encrypted,
-        count,
-        outcome,
-        answers,
-        place,
-        s,
-        words,
-    )
-}
-
-// Inputs the own contribution, which is serialised outside.
-pub fn propose(
-    epoch: &mut [u64],
-    net: NetworkInfo,
-    strategy: SubsetHandlingStrategy,
-    encrypted: bool,
-    answers: &[u64],
-    place: &mut usize,
-    step: Step,
-    words: &mut [u64],
-) -> Ran
-    requires { ⌜ Network net × EpochWords (net .«num_nodes») (now epoch) × Listed (net .«num_nodes») (now epoch) ⌝ }
-    ensures { λ r. ⌜ left (now (epoch .exit)) r (tapeAt (now (answers .entry)) (now (place .exit))) (now (words .exit))
-        ≡ leaves (out step (now (words .entry))) (propose net strategy encrypted (now (epoch .entry)) (tapeAt (now (answers .entry)) (now (place .entry)))) ⌝ }
-{
-    match steps::reader::ask(answers, place, PROPOSAL_SERIALISED) {
-        Answer::Got { a, b: _ } => {
-            if a == 0 {
-                return Ran {
-                    outcome: Outcome::Failed(PROPOSE_BINCODE),
-                    step,
-                };
+    match input {
+        SubsetInput::Proposal => match steps::reader::ask(answers, place, PROPOSAL_SERIALISED) {
+            Answer::Got { a, b: _ } => {
+                if a == 0 {
+                    return Outcome::Failed(PROPOSE_BINCODE);
+                }
+                Outcome::Done
             }
-            handle_input(epoch, net, strategy, encrypted, answers, place, step, words)
-        }
-        Answer::Refused => Ran {
-            outcome: Outcome::Refused,
-            step,
+            Answer::Refused => Outcome::Refused,
         },
+        SubsetInput::Message(_, _) => Outcome::Done,
     }
 }
 
-// Handles a message of this sender for the subset or for the decryption of p's contribution.
-pub fn handle_message_content(
+// `SubsetState::handle_input` and `handle_message`, with the number of their failure.
+fn input_subset(
     epoch: &mut [u64],
     net: NetworkInfo,
-    strategy: SubsetHandlingStrategy,
-    encrypted: bool,
-    sender: usize,
-    p: usize,
-    content: MessageContent,
+    input: SubsetInput,
     answers: &[u64],
     place: &mut usize,
     step: Step,
     words: &mut [u64],
-) -> Ran
-    requires { ⌜ Network net × EpochWords (net .«num_nodes») (now epoch) × Listed (net .«num_nodes») (now epoch) × (sender < net .«num_nodes») × (p < net .«num_nodes») ⌝ }
-    ensures { λ r. ⌜ left (now (epoch .exit)) r (tapeAt (now (answers .entry)) (now (place .exit))) (now (words .exit))
-        ≡ leaves (out step (now (words .entry))) (handleMessageContent net strategy encrypted sender p content (now (epoch .entry)) (tapeAt (now (answers .entry)) (now (place .entry)))) ⌝ }
+) -> subset::subset::Handled
+    requires { ⌜ Network net × EpochWords (net .«num_nodes») (now epoch) × Names input (net .«num_nodes») ⌝ }
+    ensures { λ r. ⌜ leftSubset (now (epoch .exit)) r (tapeAt (now (answers .entry)) (now (place .exit))) (now (words .exit))
+        ≡ leaves (out step (now (words .entry))) (subsetCall net input (now (epoch .entry)) (tapeAt (now (answers .entry)) (now (place .entry)))) ⌝ }
 {
-    match content {
-        MessageContent::Subset(message) => {
-            handle_message(
+    match input {
+        SubsetInput::Proposal => {
+            subset::subset::propose(epoch, net, INPUT_SUBSET, answers, place, step, words)
+        }
+        SubsetInput::Message(content, p) => {
+            subset::subset::handle_message(
                 epoch,
                 net,
-                strategy,
-                encrypted,
-                message,
+                HANDLE_SUBSET_MESSAGE,
+                content,
                 p,
                 answers,
                 place,
@@ -812,7 +716,87 @@ pub fn handle_message_content(
                 words,
             )
         }
-        MessageContent::DecryptionShare(share) => {
+    }
+}
+
+// A proposal or a message goes to the subset, unless that has completed.
+fn call_subset(
+    epoch: &mut [u64],
+    net: NetworkInfo,
+    strategy: SubsetHandlingStrategy,
+    encrypted: bool,
+    input: SubsetInput,
+    answers: &[u64],
+    place: &mut usize,
+    step: Step,
+    words: &mut [u64],
+) -> Ran
+    requires { ⌜ Network net × EpochWords (net .«num_nodes») (now epoch) × Listed (net .«num_nodes») (now epoch) × Names input (net .«num_nodes») ⌝ }
+    ensures { λ r. ⌜ left (now (epoch .exit)) r (tapeAt (now (answers .entry)) (now (place .exit))) (now (words .exit))
+        ≡ leaves (out step (now (words .entry))) (subsetRun net strategy encrypted input (now (epoch .entry)) (tapeAt (now (answers .entry)) (now (place .entry)))) ⌝ }
+{
+    let ready = serialise(input, answers, place);
+    let Outcome::Done = ready else {
+        return Ran {
+            outcome: ready,
+            step,
+        };
+    };
+    if epoch[STATUS_AT] == STATUS_COMPLETE {
+        return Ran {
+            outcome: Outcome::Done,
+            step,
+        };
+    }
+    let count = epoch[COUNT_AT] as usize;
+    let called = input_subset(epoch, net, input, answers, place, step, words);
+    let outcome = called.outcome;
+    let s = called.step;
+    hand_up(
+        epoch,
+        net,
+        strategy,
+        encrypted,
+        count,
+        outcome,
+        answers,
+        place,
+        s,
+        words,
+    )
+}
+
+// `propose` and `handle_message_content`, by what comes: there is one way through the subset, so that the compiler has one frame for it.
+pub fn handle(
+    epoch: &mut [u64],
+    net: NetworkInfo,
+    strategy: SubsetHandlingStrategy,
+    encrypted: bool,
+    input: Input,
+    answers: &[u64],
+    place: &mut usize,
+    step: Step,
+    words: &mut [u64],
+) -> Ran
+    requires { ⌜ Network net × EpochWords (net .«num_nodes») (now epoch) × Listed (net .«num_nodes») (now epoch) × Comes input (net .«num_nodes») ⌝ }
+    ensures { λ r. ⌜ left (now (epoch .exit)) r (tapeAt (now (answers .entry)) (now (place .exit))) (now (words .exit))
+        ≡ leaves (out step (now (words .entry))) (inputRun net strategy encrypted input (now (epoch .entry)) (tapeAt (now (answers .entry)) (now (place .entry)))) ⌝ }
+{
+    match input {
+        Input::Subset(given) => {
+            call_subset(
+                epoch,
+                net,
+                strategy,
+                encrypted,
+                given,
+                answers,
+                place,
+                step,
+                words,
+            )
+        }
+        Input::Share(sender, p, share) => {
             handle_decryption_share(epoch, net, sender, p, share, answers, place, step, words)
         }
     }

@@ -19,9 +19,10 @@ ghost use Rattle.steps.specs.Network.{Network};
 ghost use Rattle.subset.specs.Words.{epochLength};
 ghost use Rattle.epochwords.specs.Shape.{EpochWords};
 use epoch::MessageContent;
+use epoch::epoch_state::Input;
 use epoch::epoch_state::Outcome;
-use epoch::epoch_state::handle_message_content;
-use epoch::epoch_state::propose;
+use epoch::epoch_state::SubsetInput;
+use epoch::epoch_state::handle;
 use epochwords::SubsetHandlingStrategy;
 use epochwords::batch::Handed;
 use epochwords::batch::is_ready;
@@ -151,22 +152,52 @@ fn enter(
         return epoch::epoch_state::Ran { outcome, step };
     }
     if call.content == PROPOSE {
-        return propose(epoch, net, strategy, secret, answers, place, step, words);
+        let own = Input::Subset(SubsetInput::Proposal);
+        return handle(
+            epoch,
+            net,
+            strategy,
+            secret,
+            own,
+            answers,
+            place,
+            step,
+            words,
+        );
     }
+    let sender = call.sender;
+    let proposer = call.proposer;
     let content = content_of(call.content, call.item);
-    handle_message_content(
-        epoch,
-        net,
-        strategy,
-        secret,
-        call.sender,
-        call.proposer,
-        content,
-        answers,
-        place,
-        step,
-        words,
-    )
+    match content {
+        MessageContent::Subset(message) => {
+            let input = Input::Subset(SubsetInput::Message(message, proposer));
+            handle(
+                epoch,
+                net,
+                strategy,
+                secret,
+                input,
+                answers,
+                place,
+                step,
+                words,
+            )
+        }
+        MessageContent::DecryptionShare(share) => {
+            let input = Input::Share(sender, proposer, share);
+            handle(
+                epoch,
+                net,
+                strategy,
+                secret,
+                input,
+                answers,
+                place,
+                step,
+                words,
+            )
+        }
+    }
 }
 
 // The batch of the epoch, where it may go out.

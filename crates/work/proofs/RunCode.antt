@@ -1,7 +1,7 @@
 -- A run, from what its parts left: building the epoch, its call, the batches. For the proofs of the code. Assumes nothing.
 use Prim.Native.Nat.{ℕ, _+_}
 use mathlib.Core.Path.{_≡_, refl, sym, ap, _∙_}
-use mathlib.Core.List.{List, [], _∷_}
+use mathlib.Core.List.{List}
 use mathlib.Core.Bool.{true}
 use borrow.Author.Tests.{eq-eqb, ne-eqb}
 use Rattle.steps.specs.declared.reader.Answer.{Answer}
@@ -14,16 +14,19 @@ use Rattle.steps.specs.Runs.{Verdict, going, refused, failed, Run, Left, ends, 
 use Rattle.steps.proofs.RunLaws.{heard-got, heard-none, onward-go, onward-stop}
 use Rattle.subset.specs.Words.{statusOf}
 use Rattle.epoch.specs.declared.epoch_state.Outcome.{Outcome}
-use Rattle.epoch.specs.Epoch.{newEpoch}
-use Rattle.epoch.specs.Outcomes.{outcomeVerdict}
+use Rattle.epoch.specs.Epoch.{handleMessageContent, newEpoch}
+use Rattle.epoch.specs.Outcomes.{outcomeVerdict, inputRun, Comes}
 use Rattle.epochwords.specs.Shape.{Listed}
 use Rattle.epoch.proofs.Ranges.{new-epoch-ok}
 use Rattle.epochwords.proofs.LimitsOfWords.{ok-listed}
-use Rattle.state.specs.State.{nodes, ahead, currentEpoch, netOf, epochWords, stateOk}
+use Rattle.state.specs.State.{nodes, ahead, currentEpoch, netOf, strategyOf, encryptedIn, epochWords, stateOk}
 use Rattle.state.proofs.RangesState.{header-ok, network-ok}
 use Rattle.state.proofs.RangeCode.{words-listed}
 use Rattle.work.specs.Work.{built, epochCall, batchesFrom, beside, worked, workIn}
-use Rattle.work.specs.Shape.{leftBuilt}
+use Rattle.epoch.specs.declared.MessageContent.the-variants.{Subset, DecryptionShare}
+use Rattle.work.specs.declared.honey_badger.Call.{Call}
+use Rattle.work.specs.declared.honey_badger.Call.the-variants.{Propose, Message}
+use Rattle.work.specs.Shape.{CallOk, bodyOf, inputOf, leftBuilt}
 use Rattle.work.proofs.RunLeaves.{work-goes}
 use Rattle.work.proofs.RunBesideState.{built-keeps}
 
@@ -81,3 +84,15 @@ pub run-goes : (w : List ℕ) (e : ℕ) (body : List ℕ → Tape → Run (List 
     → (u : Verdict (Unit {0})) → l .verdict ≡ u → record { state = worked (d .state) (l .state); verdict = u; tape = l .tape; out = l .out } ≡ leaves o (workIn w e body p)
 run-goes w e body p o d left g l z u t =
     ap (λ v. record { state = worked (d .state) (l .state); verdict = v; tape = l .tape; out = l .out }) (sym t) ∙ work-goes w e body p o d left g l z
+
+-- THE EPOCH'S CALL: what comes to the epoch is what the call runs, and who is named is a node
+pub body-input : (call : Call) (w : List ℕ) (epoch : ℕ) (x : List ℕ) (p : Tape) → inputRun (netOf w) (strategyOf w) (encryptedIn w epoch) (inputOf call) x p ≡ bodyOf call w epoch x p
+unfolding handleMessageContent
+body-input Propose w epoch x p = refl
+body-input (Message sender proposer (Subset content)) w epoch x p = refl
+body-input (Message sender proposer (DecryptionShare share)) w epoch x p = refl
+
+pub call-comes : (call : Call) (n : ℕ) → CallOk call n → Comes (inputOf call) n
+call-comes Propose n h = tt
+call-comes (Message sender proposer (Subset content)) n h = h .1
+call-comes (Message sender proposer (DecryptionShare share)) n h = h

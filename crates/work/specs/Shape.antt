@@ -9,6 +9,10 @@ use Rattle.steps.specs.Answers.{Tape}
 use Rattle.steps.specs.Steps.{out}
 use Rattle.steps.specs.Runs.{Verdict, going, refused, Run, ends, onward, Left}
 use Rattle.epoch.specs.declared.MessageContent.{MessageContent}
+use Rattle.epoch.specs.declared.MessageContent.the-variants.{Subset, DecryptionShare}
+use Rattle.epoch.specs.declared.epoch_state.SubsetInput.the-variants.{Proposal, Message as ToProposer}
+use Rattle.epoch.specs.declared.epoch_state.Input.{Input}
+use Rattle.epoch.specs.declared.epoch_state.Input.the-variants.{Subset as OfSubset, Share as OfShare}
 use Rattle.epoch.specs.declared.epoch_state.Outcome.{Outcome}
 use Rattle.epoch.specs.Outcomes.{outcomeVerdict}
 use Rattle.epoch.specs.Epoch.{propose as proposeInEpoch, handleMessageContent}
@@ -25,6 +29,15 @@ use Rattle.work.specs.Work.{Worked, worked, workIn}
 abbrev pub bodyOf : Call → List ℕ → ℕ → List ℕ → Tape → Run (List ℕ) (Unit {0})
 bodyOf Propose w epoch = proposeInEpoch (netOf w) (strategyOf w) (encryptedIn w epoch)
 bodyOf (Message sender proposer content) w epoch = handleMessageContent (netOf w) (strategyOf w) (encryptedIn w epoch) sender proposer content
+
+-- what comes to the epoch with a call
+abbrev pub contentInput : ℕ → ℕ → MessageContent → Input
+contentInput sender proposer (Subset content) = OfSubset (ToProposer content proposer)
+contentInput sender proposer (DecryptionShare share) = OfShare sender proposer share
+
+abbrev pub inputOf : Call → Input
+inputOf Propose = OfSubset Proposal
+inputOf (Message sender proposer content) = contentInput sender proposer content
 
 -- sender and proposer of a message are nodes
 abbrev pub CallOk : Call → ℕ → Type 0

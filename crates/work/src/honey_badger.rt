@@ -15,13 +15,14 @@ ghost use Rattle.epochwords.specs.Shape.{EpochWords, Listed};
 ghost use Rattle.state.specs.State.{nodes, ahead, currentEpoch, epochWords, netOf, stateOk};
 ghost use Rattle.state.specs.Shape.{StateWords};
 ghost use Rattle.work.specs.Work.{built, epochCall, beside, batchesFrom};
-ghost use Rattle.work.specs.Shape.{CallOk, bodyOf, callWork, tryOutputBatch, leftTried, leftBatches, leftBuilt, leftRan};
+ghost use Rattle.work.specs.Shape.{CallOk, bodyOf, inputOf, callWork, tryOutputBatch, leftTried, leftBatches, leftBuilt, leftRan};
 ghost use Rattle.epoch.specs.Outcomes.{left};
 use epoch::MessageContent;
+use epoch::epoch_state::Input;
 use epoch::epoch_state::Outcome;
-use epoch::epoch_state::handle_message_content;
+use epoch::epoch_state::SubsetInput;
+use epoch::epoch_state::handle;
 use epoch::epoch_state::new_epoch;
-use epoch::epoch_state::propose;
 use epochwords::batch::Handed;
 use epochwords::batch::is_ready;
 use epochwords::batch::output_batch;
@@ -192,6 +193,21 @@ fn build(n: usize, words: &mut [u64], answers: &[u64], place: &mut usize) -> Out
     }
 }
 
+// What comes to the epoch with a call.
+fn input_of(call: Call) -> Input
+    ensures { λ r. ⌜ r ≡ inputOf call ⌝ }
+{
+    match call {
+        Call::Propose => Input::Subset(SubsetInput::Proposal),
+        Call::Message(sender, proposer, content) => match content {
+            MessageContent::Subset(message) => {
+                Input::Subset(SubsetInput::Message(message, proposer))
+            }
+            MessageContent::DecryptionShare(share) => Input::Share(sender, proposer, share),
+        },
+    }
+}
+
 // The epoch's own call.
 fn call_body(
     state: &[u64],
@@ -210,22 +226,18 @@ fn call_body(
     let net = net_of(state);
     let strategy = strategy_of(state);
     let encrypted = encrypted_in(state, epoch);
-    match call {
-        Call::Propose => propose(words, net, strategy, encrypted, answers, place, step, table),
-        Call::Message(sender, proposer, content) => handle_message_content(
-            words,
-            net,
-            strategy,
-            encrypted,
-            sender,
-            proposer,
-            content,
-            answers,
-            place,
-            step,
-            table,
-        ),
-    }
+    let input = input_of(call);
+    handle(
+        words,
+        net,
+        strategy,
+        encrypted,
+        input,
+        answers,
+        place,
+        step,
+        table,
+    )
 }
 
 // The epoch's words are built where there are none, then its own call runs.
