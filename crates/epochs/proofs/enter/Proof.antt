@@ -7,20 +7,19 @@ use Rattle.epochs.proofs.enter.Statement.{statement}
 use Rattle.epochs.proofs.enter.Tie as tie
 use Rattle.epochs.proofs.enter.Reads as reads
 use Rattle.epochs.proofs.enter.Lts as lts
-use Rattle.epoch.proofs.epoch_state.handle_message_content.Reads as handle-message-content-reads
-use Rattle.epoch.proofs.epoch_state.propose.Reads as propose-reads
-use Rattle.epochwords.proofs.range.epoch_in_range.Reads as epoch-in-range-reads
+use Rattle.epoch.proofs.epoch_state.handle.Reads as handle-reads
 use Rattle.epochs.proofs.content_of.Reads as content-of-reads
+use Rattle.epochwords.proofs.range.epoch_in_range.Reads as epoch-in-range-reads
 
--- src/main.rt:149:9
+-- src/main.rt:150:9
 epoch-in-range-requires : tie.Need-epoch-in-range-requires
 epoch-in-range-requires c κs = search needs
 
--- src/main.rt:151:9
+-- src/main.rt:152:9
 same-length : tie.Need-same-length
 same-length c = search needs
 
--- src/main.rt:151:9
+-- src/main.rt:152:9
 returns : tie.Need-returns
 returns c = search needs
 
@@ -28,41 +27,65 @@ in-range : (b : Bool) → not b ≡ false → b ≡ true
 in-range true e = refl
 in-range false e = sym e
 
--- src/main.rt:154:9
-propose-requires : tie.Need-propose-requires
-propose-requires c κs = (c .before .before .before .before .before .before .before .before .before .before .before .before .pre .0, c .before .before .before .before .before .before .before .before .before .before .before .before .pre .1, (ok-listed _ _ (epoch-below _ _ _ (c .before .before .before .before .before .before .before .before .before .before .before .before .pre .0 .some) (c .before .before .before .before .before .before .before .before .before .before .before .before .pre .1 .long) (sym (c .before .before .before .before .before .before .epoch-in-range .ensures) ∙ in-range _ (c .before .before .before .before .before .if1 .left)))))
+-- src/main.rt:156:9
+handle-requires : tie.Need-handle-requires
+handle-requires c κs = (c .before .before .before .before .before .before .before .before .before .before .before .before .pre .0, c .before .before .before .before .before .before .before .before .before .before .before .before .pre .1, (ok-listed _ _ (epoch-below _ _ _ (c .before .before .before .before .before .before .before .before .before .before .before .before .pre .0 .some) (c .before .before .before .before .before .before .before .before .before .before .before .before .pre .1 .long) (sym (c .before .before .before .before .before .before .epoch-in-range .ensures) ∙ in-range _ (c .before .before .before .before .before .if1 .left)))), tt)
 
--- src/main.rt:154:9
+-- src/main.rt:156:9
 same-length-2 : tie.Need-same-length-2
 same-length-2 c = search needs
 
--- src/main.rt:154:9
+-- src/main.rt:156:9
 same-length-3 : tie.Need-same-length-3
 same-length-3 c = search needs
 
--- src/main.rt:154:9
+-- src/main.rt:156:9
 returns-2 : tie.Need-returns-2
 returns-2 c = search needs
 
--- src/main.rt:156:9
+-- src/main.rt:170:9
 content-of-requires : tie.Need-content-of-requires
 content-of-requires c κs = search needs
 
--- src/main.rt:157:5
-handle-message-content-requires : tie.Need-handle-message-content-requires
-handle-message-content-requires c κs = (c .before .before .before .before .before .before .before .before .before .before .before .before .before .pre .0, c .before .before .before .before .before .before .before .before .before .before .before .before .before .pre .1, (ok-listed _ _ (epoch-below _ _ _ (c .before .before .before .before .before .before .before .before .before .before .before .before .before .pre .0 .some) (c .before .before .before .before .before .before .before .before .before .before .before .before .before .pre .1 .long) (sym (c .before .before .before .before .before .before .before .epoch-in-range .ensures) ∙ in-range _ (c .before .before .before .before .before .before .if1 .left)))), c .before .before .before .before .before .before .before .before .before .before .before .before .before .pre .2, c .before .before .before .before .before .before .before .before .before .before .before .before .before .pre .3)
+-- src/main.rt:172:32
+enum-known-content : tie.Need-enum-known-content
+enum-known-content c = search needs
 
--- src/main.rt:135:1
+-- src/main.rt:174:13
+handle-requires-2 : tie.Need-handle-requires-2
+handle-requires-2 c κs = (c .before .before .before .before .before .before .before .before .before .before .before .before .before .before .before .before .pre .0, c .before .before .before .before .before .before .before .before .before .before .before .before .before .before .before .before .pre .1, (ok-listed _ _ (epoch-below _ _ _ (c .before .before .before .before .before .before .before .before .before .before .before .before .before .before .before .before .pre .0 .some) (c .before .before .before .before .before .before .before .before .before .before .before .before .before .before .before .before .pre .1 .long) (sym (c .before .before .before .before .before .before .before .before .before .before .epoch-in-range .ensures) ∙ in-range _ (c .before .before .before .before .before .before .before .before .before .if1 .left)))), c .before .before .before .before .before .before .before .before .before .before .before .before .before .before .before .before .pre .3)
+
+-- src/main.rt:186:41
+enum-known-content-2 : tie.Need-enum-known-content-2
+enum-known-content-2 c = search needs
+
+-- src/main.rt:188:13
+handle-requires-3 : tie.Need-handle-requires-3
+handle-requires-3 c κs = (c .before .before .before .before .before .before .before .before .before .before .before .before .before .before .before .before .pre .0, c .before .before .before .before .before .before .before .before .before .before .before .before .before .before .before .before .pre .1, (ok-listed _ _ (epoch-below _ _ _ (c .before .before .before .before .before .before .before .before .before .before .before .before .before .before .before .before .pre .0 .some) (c .before .before .before .before .before .before .before .before .before .before .before .before .before .before .before .before .pre .1 .long) (sym (c .before .before .before .before .before .before .before .before .before .before .epoch-in-range .ensures) ∙ in-range _ (c .before .before .before .before .before .before .before .before .before .if1 .left)))), (c .before .before .before .before .before .before .before .before .before .before .before .before .before .before .before .before .pre .2, c .before .before .before .before .before .before .before .before .before .before .before .before .before .before .before .before .pre .3))
+
+-- src/main.rt:136:1
 same-length-4 : tie.Need-same-length-4
 same-length-4 c = search needs
 
--- src/main.rt:135:1
+-- src/main.rt:136:1
 same-length-5 : tie.Need-same-length-5
 same-length-5 c = search needs
 
--- src/main.rt:135:1
+-- src/main.rt:136:1
 returns-3 : tie.Need-returns-3
 returns-3 c = search needs
+
+-- src/main.rt:136:1
+same-length-6 : tie.Need-same-length-6
+same-length-6 c = search needs
+
+-- src/main.rt:136:1
+same-length-7 : tie.Need-same-length-7
+same-length-7 c = search needs
+
+-- src/main.rt:136:1
+returns-4 : tie.Need-returns-4
+returns-4 c = search needs
 
 pub enter-spec : {M : Type 1} → statement M
 enter-spec =
@@ -71,12 +94,18 @@ enter-spec =
     epoch-in-range-requires
     same-length
     returns
-    propose-requires
+    handle-requires
     same-length-2
     same-length-3
     returns-2
     content-of-requires
-    handle-message-content-requires
+    enum-known-content
+    handle-requires-2
+    enum-known-content-2
+    handle-requires-3
     same-length-4
     same-length-5
-    returns-3)
+    returns-3
+    same-length-6
+    same-length-7
+    returns-4)
