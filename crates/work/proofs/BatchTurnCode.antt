@@ -2,18 +2,22 @@
 use Prim.Native.Nat.{ℕ, suc, _+_}
 use native.Mathlib.Omega.{arith}
 use mathlib.Core.Path.{_≡_, refl, sym, ap, _∙_}
-use mathlib.Core.List.{List}
+use mathlib.Core.List.{List, [], _∷_}
 use mathlib.Core.Bool.{Bool, true, false}
-use lib.Dec.{eqb}
 use borrow.Author.Tests.{eq-eqb, ne-eqb}
+use types.Run.{OneOf, miss}
+use denote.Enum.Declared.{tagOf}
 use Rattle.steps.specs.Answers.{Tape}
 use Rattle.steps.specs.Steps.{Out, putAll}
 use Rattle.steps.specs.Runs.{Verdict, going, refused, failed, Run, Left, ends, onward, leaves}
 use Rattle.steps.proofs.RunLaws.{onward-go, onward-refused, onward-failed}
 use Rattle.epochwords.specs.Batch.{isReady, outputBatch}
 use Rattle.state.specs.State.{epochWords}
+use Rattle.work.specs.declared.honey_badger.Trial.{Trial}
+use Rattle.work.specs.declared.honey_badger.Trial.the-variants.{NotReady, Done, Refused}
 use Rattle.work.specs.Work.{batchesFrom, beside}
 use Rattle.work.specs.Shape.{tryOutputBatch, triedVerdict, batchesVerdict}
+use Rattle.work.proofs.honey_badger.Trial.{the-type as trial-type}
 use Rattle.work.proofs.RunLeaves.{turn-over, turn-goes, turn-stops}
 
 -- THE WORDS OF AN EPOCH: the call's own stand apart, those of the others in the state
@@ -76,27 +80,11 @@ module _ (n : ℕ) (words : ℕ → List ℕ) (m e : ℕ) (p : Tape) (o : Out) (
   pub tried-goes : d .verdict ≡ going true → leaves (d .out) (batchesFrom n words m (e + 1) (d .tape)) ≡ leaves o (batchesFrom n words (suc m) e p)
   tried-goes = turn .0
 
-  pub tried-stops : (x : ℕ) → (x ≡ 0 → ⊥) → d .verdict ≡ triedVerdict x
+  pub tried-stops : (x : Trial) → OneOf (0 ∷ 2 ∷ []) (tagOf trial-type x) → d .verdict ≡ triedVerdict x
       → record { state = e; verdict = batchesVerdict x; tape = d .tape; out = d .out } ≡ leaves o (batchesFrom n words (suc m) e p)
-  tried-stops x h z = go (eqb x 2) refl
-    where
-      go : (t : Bool) → eqb x 2 ≡ t → record { state = e; verdict = batchesVerdict x; tape = d .tape; out = d .out } ≡ leaves o (batchesFrom n words (suc m) e p)
-      go true f =
-          let y : d .verdict ≡ refused = z ∙ rw (ne-eqb x 0 h, f) in
-          rw f (rw y at (turn .1 (λ k. let u : _≡_ {A = ℕ} 0 1 = cc in omega arith)))
-      go false f =
-          let y : d .verdict ≡ going false = z ∙ rw (ne-eqb x 0 h, f) in
-          rw f (rw y at (turn .1 (λ k. let u : _≡_ {A = ℕ} 0 1 = cc in omega arith)))
-
--- what a number stands for, by the tests of the code
-pub went-out : (o : ℕ) → o ≡ 0 → triedVerdict o ≡ going true
-went-out o e = rw (eq-eqb o 0 e)
-
-pub batches-refused : (o : ℕ) → o ≡ 2 → batchesVerdict o ≡ refused
-batches-refused o e = rw (eq-eqb o 2 e)
-
-pub batches-done : (o : ℕ) → (o ≡ 2 → ⊥) → batchesVerdict o ≡ going tt
-batches-done o e = rw (ne-eqb o 2 e)
+  tried-stops Done h z = absurd (miss (0 ∷ 2 ∷ []) 1 tt h)
+  tried-stops NotReady h z = rw z at (turn .1 (λ y. let u : _≡_ {A = ℕ} 0 1 = cc in omega arith))
+  tried-stops Refused h z = rw z at (turn .1 (λ y. let u : _≡_ {A = ℕ} 0 1 = cc in omega arith))
 
 -- no turn is left
 pub none-left : (n : ℕ) (words : ℕ → List ℕ) (m e : ℕ) (p : Tape) → m ≡ 0 → ends (going tt) e p ≡ batchesFrom n words m e p

@@ -1,9 +1,11 @@
 -- A run, from what its parts left: building the epoch, its call, the batches. For the proofs of the code. Assumes nothing.
 use Prim.Native.Nat.{ℕ, _+_}
 use mathlib.Core.Path.{_≡_, refl, sym, ap, _∙_}
-use mathlib.Core.List.{List}
+use mathlib.Core.List.{List, [], _∷_}
 use mathlib.Core.Bool.{true}
 use borrow.Author.Tests.{eq-eqb, ne-eqb}
+use types.Run.{OneOf, miss}
+use denote.Enum.Declared.{tagOf}
 use Rattle.steps.specs.declared.reader.Answer.{Answer}
 use Rattle.steps.specs.declared.reader.Answer.the-variants.{Got, Refused as NoAnswer}
 use Rattle.steps.specs.declared.network_info.NetworkInfo.{NetworkInfo}
@@ -22,11 +24,14 @@ use Rattle.epochwords.proofs.LimitsOfWords.{ok-listed}
 use Rattle.state.specs.State.{nodes, ahead, currentEpoch, netOf, strategyOf, encryptedIn, epochWords, stateOk}
 use Rattle.state.proofs.RangesState.{header-ok, network-ok}
 use Rattle.state.proofs.RangeCode.{words-listed}
+use Rattle.work.specs.declared.honey_badger.Trial.{Trial}
+use Rattle.work.specs.declared.honey_badger.Trial.the-variants.{NotReady, Done, Refused}
 use Rattle.work.specs.Work.{built, epochCall, batchesFrom, beside, worked, workIn}
 use Rattle.epoch.specs.declared.MessageContent.the-variants.{Subset, DecryptionShare}
 use Rattle.work.specs.declared.honey_badger.Call.{Call}
 use Rattle.work.specs.declared.honey_badger.Call.the-variants.{Propose, Message}
-use Rattle.work.specs.Shape.{CallOk, bodyOf, inputOf, leftBuilt}
+use Rattle.work.specs.Shape.{CallOk, bodyOf, inputOf, batchesVerdict, leftBuilt}
+use Rattle.work.proofs.honey_badger.Trial.{the-type as trial-type}
 use Rattle.work.proofs.RunLeaves.{work-goes}
 use Rattle.work.proofs.RunBesideState.{built-keeps}
 
@@ -77,6 +82,10 @@ module _ (n : ℕ) (body : List ℕ → Tape → Run (List ℕ) (Unit {0})) (w :
   call-goes g = onward-go (leaves o (leftBuilt v x q)) o (built n w p) (λ _ x q. body x q) (ap (leaves o) left) tt g
 
 -- THE RUN, after its call left d, and the batches l: it is done, unless the batches were refused
+pub not-refused : (v : Trial) → OneOf (0 ∷ 1 ∷ []) (tagOf trial-type v) → batchesVerdict v ≡ going tt
+not-refused NotReady h = refl
+not-refused Done h = refl
+not-refused Refused h = absurd (miss (0 ∷ 1 ∷ []) 2 tt h)
 
 pub run-goes : (w : List ℕ) (e : ℕ) (body : List ℕ → Tape → Run (List ℕ) (Unit {0})) (p : Tape) (o : Out)
     (d : Left (List ℕ) (Unit {0})) → d ≡ leaves o (epochCall (nodes w) body (epochWords w e) p) → d .verdict ≡ going tt

@@ -3,7 +3,7 @@ use Prim.Native.Nat.{ℕ, _+_, _<_}
 use mathlib.Core.List.{List, []}
 use mathlib.Core.Bool.{Bool, true, false, cond}
 use lib.ListN.{set}
-use lib.Dec.{eqb, leb}
+use lib.Dec.{leb}
 use Rattle.steps.specs.Numbers.{faultLimit}
 use Rattle.steps.specs.Answers.{Tape}
 use Rattle.steps.specs.Steps.{out}
@@ -20,6 +20,8 @@ use Rattle.epochwords.specs.Batch.{isReady, outputBatch}
 use Rattle.state.specs.State.{faultCount, inputAt, faultsAt, netOf, strategyOf, encryptedIn}
 use Rattle.work.specs.declared.honey_badger.Call.{Call}
 use Rattle.work.specs.declared.honey_badger.Call.the-variants.{Propose, Message}
+use Rattle.work.specs.declared.honey_badger.Trial.{Trial}
+use Rattle.work.specs.declared.honey_badger.Trial.the-variants.{NotReady, Done, Refused}
 use Rattle.work.specs.declared.honey_badger.Tried.{Tried}
 use Rattle.work.specs.declared.honey_badger.Batches.{Batches}
 use Rattle.work.specs.declared.honey_badger.Ran.{Ran}
@@ -60,17 +62,20 @@ tryOutputBatch n e x p =
     (onward (outputBatch n e x p) (λ _ x q. ends (going true) x q))
     (ends (going false) x p)
 
--- 0 it went out, 2 an answer was not there, 1 it is not ready
-abbrev pub triedVerdict : ℕ → Verdict Bool
-triedVerdict o = cond (eqb o 0) (going true) (cond (eqb o 2) refused (going false))
+abbrev pub triedVerdict : Trial → Verdict Bool
+triedVerdict NotReady = going false
+triedVerdict Done = going true
+triedVerdict Refused = refused
 
 -- the epoch's words are only read
 abbrev pub leftTried : List ℕ → Tried → Tape → List ℕ → Left (List ℕ) Bool
 leftTried x r p words = record { state = x; verdict = triedVerdict (r .outcome); tape = p; out = out (r .step) words }
 
 -- BATCHES: the run's state is the epoch that is next
-abbrev pub batchesVerdict : ℕ → Verdict (Unit {0})
-batchesVerdict o = cond (eqb o 2) refused (going tt)
+abbrev pub batchesVerdict : Trial → Verdict (Unit {0})
+batchesVerdict NotReady = going tt
+batchesVerdict Done = going tt
+batchesVerdict Refused = refused
 
 abbrev pub leftBatches : Batches → Tape → List ℕ → Left ℕ (Unit {0})
 leftBatches r p words = record { state = r .next; verdict = batchesVerdict (r .outcome); tape = p; out = out (r .step) words }

@@ -48,22 +48,22 @@ pub enum Call {
     Message(usize, usize, MessageContent),
 }
 
-// What handing out the batch of an epoch comes to, as numbers: a word beside the step is copied faster than an enum, which has padding.
-pub const HANDED_OUT: u64 = 0;
-
-pub const NOT_READY: u64 = 1;
-
-pub const REFUSED: u64 = 2;
+// What handing out the batch of an epoch comes to.
+pub enum Trial {
+    NotReady,
+    Done,
+    Refused,
+}
 
 pub struct Tried {
-    pub outcome: u64,
+    pub outcome: Trial,
     pub step: Step,
 }
 
 // What handing out batches comes to: the epoch that is next, and how the last turn ended.
 pub struct Batches {
     pub next: u64,
-    pub outcome: u64,
+    pub outcome: Trial,
     pub step: Step,
 }
 
@@ -91,7 +91,7 @@ fn try_output_batch(
     let size = RECORD_FIELDS + n;
     if !is_ready(words, size, n) {
         return Tried {
-            outcome: NOT_READY,
+            outcome: Trial::NotReady,
             step,
         };
     }
@@ -100,11 +100,11 @@ fn try_output_batch(
     let outcome = batch.outcome;
     match outcome {
         Handed::Done => Tried {
-            outcome: HANDED_OUT,
+            outcome: Trial::Done,
             step: s,
         },
         Handed::Refused => Tried {
-            outcome: REFUSED,
+            outcome: Trial::Refused,
             step: s,
         },
     }
@@ -155,19 +155,19 @@ fn try_output_batches(
         let tried = try_output_at(state, epoch, words, next, answers, place, s, table);
         let outcome = tried.outcome;
         s = tried.step;
-        if outcome != HANDED_OUT {
+        let Trial::Done = outcome else {
             return Batches {
                 next,
                 outcome,
                 step: s,
             };
-        }
+        };
         next += 1;
         left -= 1;
     }
     Batches {
         next,
-        outcome: HANDED_OUT,
+        outcome: Trial::Done,
         step: s,
     }
 }
@@ -297,16 +297,16 @@ pub fn run(
     let next = batches.next;
     let all = batches.step;
     let ended = batches.outcome;
-    if ended == REFUSED {
-        return Ran {
+    match ended {
+        Trial::Refused => Ran {
             next,
             outcome: Outcome::Refused,
             step: all,
-        };
-    }
-    Ran {
-        next,
-        outcome: Outcome::Done,
-        step: all,
+        },
+        _ => Ran {
+            next,
+            outcome: Outcome::Done,
+            step: all,
+        },
     }
 }

@@ -7,8 +7,8 @@ use Rattle.work.proofs.honey_badger.try_output_at.Statement.{statement}
 use Rattle.work.proofs.honey_badger.try_output_at.Tie as tie
 use Rattle.work.proofs.honey_badger.try_output_at.Reads as reads
 use Rattle.work.proofs.honey_badger.try_output_at.Lts as lts
-use Rattle.state.proofs.words.place_of.Reads as place-of-reads
 use Rattle.work.proofs.honey_badger.try_output_batch.Reads as try-output-batch-reads
+use Rattle.state.proofs.words.place_of.Reads as place-of-reads
 
 -- src/honey_badger.rt:127:13
 shared-slice-read-n : tie.Need-shared-slice-read-n

@@ -33,11 +33,11 @@ returns c = rw (sym (c .before .is-ready .ensures) ∙ not-true _ (c .if1 .taken
 output-batch-requires : tie.Need-output-batch-requires
 output-batch-requires c κs = record { few = c .before .before .before .before .before .before .before .pre .few; fields = omega arith; long = omega (arith, c .before .before .before .before .before .before .before .pre .long) }
 
--- src/honey_badger.rt:101:25
+-- src/honey_badger.rt:102:22
 enum-told : tie.Need-enum-told
 enum-told c = search needs
 
--- src/honey_badger.rt:105:28
+-- src/honey_badger.rt:106:22
 enum-told-2 : tie.Need-enum-told-2
 enum-told-2 c = search needs
 

@@ -10,7 +10,8 @@ use Rattle.steps.specs.Runs.{leaves}
 use Rattle.state.specs.State.{nodes, ahead, currentEpoch}
 use Rattle.state.proofs.WordsCode.{header-inside}
 use Rattle.work.specs.Work.{beside, batchesFrom}
-use Rattle.work.proofs.BatchTurnCode.{tried-goes, tried-stops, went-out, none-left}
+use Rattle.work.specs.Shape.{triedVerdict}
+use Rattle.work.proofs.BatchTurnCode.{tried-goes, tried-stops, none-left}
 use Rattle.work.proofs.honey_badger.try_output_batches.Statement.{statement}
 use Rattle.work.proofs.honey_badger.try_output_batches.Tie as tie
 use Rattle.work.proofs.honey_badger.try_output_batches.Reads as reads
@@ -46,17 +47,20 @@ loop-holds c = (omega (arith, c .before .before .before .before .before .before 
 try-output-at-requires : tie.Need-try-output-at-requires Inv-loop μ-loop
 try-output-at-requires c κs = (c .before .before .before .before .before .before .before .before .before .before .pre .0, c .before .before .before .before .before .before .before .before .before .before .pre .1)
 
+enum-told : tie.Need-enum-told Inv-loop μ-loop
+enum-told c = search needs
+
 -- src/honey_badger.rt:158:13
 same-length : tie.Need-same-length Inv-loop μ-loop
 same-length c = (c .before .before .before .before .try-output-at .kept .1 .1 .1 .1 .1 .1 .1 .0 ∙ c .before .before .before .before .before .before .before .before .loop .inv .2)
 
 -- src/honey_badger.rt:158:13
 returns : tie.Need-returns Inv-loop μ-loop
-returns c = tried-stops (nodes (c .before .before .before .before .before .before .before .before .before .before .before .before .before .before .before .args .state .now)) (beside (c .before .before .before .before .before .before .before .before .before .before .before .before .before .before .before .args .state .now) (c .before .before .before .before .before .before .before .before .before .before .before .before .before .before .before .args .epoch) (c .before .before .before .before .before .before .before .before .before .before .before .before .before .before .before .args .words .now)) (c .before .before .before .before .before .before .before .before .loop .left - 1) (c .before .before .before .before .before .before .before .before .loop .next) _ _ _ (c .before .before .before .before .try-output-at .ensures) (c .before .before .before .before .try-output-at .result .outcome) (c .if1 .taken) refl ∙ (ap (λ k. leaves (out (c .before .before .before .before .before .before .before .before .loop .s) (c .before .before .before .before .before .before .before .before .loop .table)) (batchesFrom (nodes (c .before .before .before .before .before .before .before .before .before .before .before .before .before .before .before .args .state .now)) (beside (c .before .before .before .before .before .before .before .before .before .before .before .before .before .before .before .args .state .now) (c .before .before .before .before .before .before .before .before .before .before .before .before .before .before .before .args .epoch) (c .before .before .before .before .before .before .before .before .before .before .before .before .before .before .before .args .words .now)) k (c .before .before .before .before .before .before .before .before .loop .next) (tapeAt (c .before .before .before .before .before .before .before .before .before .before .before .before .before .before .before .args .answers .now) (c .before .before .before .before .before .before .before .before .loop .place)))) (sym (let z : c .before .before .before .before .before .before .before .before .loop .left ≡ suc (c .before .before .before .before .before .before .before .before .loop .left - 1) = omega arith in z)) ∙ c .before .before .before .before .before .before .before .before .loop .inv .3)
+returns c = tried-stops (nodes (c .before .before .before .before .before .before .before .before .before .before .before .before .before .before .before .args .state .now)) (beside (c .before .before .before .before .before .before .before .before .before .before .before .before .before .before .before .args .state .now) (c .before .before .before .before .before .before .before .before .before .before .before .before .before .before .before .args .epoch) (c .before .before .before .before .before .before .before .before .before .before .before .before .before .before .before .args .words .now)) (c .before .before .before .before .before .before .before .before .loop .left - 1) (c .before .before .before .before .before .before .before .before .loop .next) _ _ _ (c .before .before .before .before .try-output-at .ensures) (c .before .before .before .before .try-output-at .result .outcome) (c .match .keys2) refl ∙ (ap (λ k. leaves (out (c .before .before .before .before .before .before .before .before .loop .s) (c .before .before .before .before .before .before .before .before .loop .table)) (batchesFrom (nodes (c .before .before .before .before .before .before .before .before .before .before .before .before .before .before .before .args .state .now)) (beside (c .before .before .before .before .before .before .before .before .before .before .before .before .before .before .before .args .state .now) (c .before .before .before .before .before .before .before .before .before .before .before .before .before .before .before .args .epoch) (c .before .before .before .before .before .before .before .before .before .before .before .before .before .before .before .args .words .now)) k (c .before .before .before .before .before .before .before .before .loop .next) (tapeAt (c .before .before .before .before .before .before .before .before .before .before .before .before .before .before .before .args .answers .now) (c .before .before .before .before .before .before .before .before .loop .place)))) (sym (let z : c .before .before .before .before .before .before .before .before .loop .left ≡ suc (c .before .before .before .before .before .before .before .before .loop .left - 1) = omega arith in z)) ∙ c .before .before .before .before .before .before .before .before .loop .inv .3)
 
 -- src/honey_badger.rt:164:9
 add-next : tie.Need-add-next Inv-loop μ-loop
-add-next c = omega (arith, c .before .before .before .before .before .before .before .before .before .before .before .before .before .before .before .pre .0 .near, c .before .before .before .before .before .before .before .before .before .before .before .before .before .before .before .pre .0 .epoch)
+add-next c = omega (arith, c .before .before .before .before .before .before .before .before .before .before .before .before .before .before .before .before .pre .0 .near, c .before .before .before .before .before .before .before .before .before .before .before .before .before .before .before .before .pre .0 .epoch)
 
 -- src/honey_badger.rt:165:9
 sub-left : tie.Need-sub-left Inv-loop μ-loop
@@ -68,7 +72,7 @@ loop-less c = search needs
 
 -- src/honey_badger.rt:153:5
 loop-again : tie.Need-loop-again Inv-loop μ-loop
-loop-again c = (omega arith, omega arith, (c .before .before .before .before .try-output-at .kept .1 .1 .1 .1 .1 .1 .1 .0 ∙ c .before .before .before .before .before .before .before .before .loop .inv .2), tried-goes (nodes (c .before .before .before .before .before .before .before .before .before .before .before .before .before .before .before .args .state .now)) (beside (c .before .before .before .before .before .before .before .before .before .before .before .before .before .before .before .args .state .now) (c .before .before .before .before .before .before .before .before .before .before .before .before .before .before .before .args .epoch) (c .before .before .before .before .before .before .before .before .before .before .before .before .before .before .before .args .words .now)) (c .before .before .before .before .before .before .before .before .loop .left - 1) (c .before .before .before .before .before .before .before .before .loop .next) _ _ _ (c .before .before .before .before .try-output-at .ensures) (went-out (c .before .before .before .before .try-output-at .result .outcome) (c .if1 .left)) ∙ (ap (λ k. leaves (out (c .before .before .before .before .before .before .before .before .loop .s) (c .before .before .before .before .before .before .before .before .loop .table)) (batchesFrom (nodes (c .before .before .before .before .before .before .before .before .before .before .before .before .before .before .before .args .state .now)) (beside (c .before .before .before .before .before .before .before .before .before .before .before .before .before .before .before .args .state .now) (c .before .before .before .before .before .before .before .before .before .before .before .before .before .before .before .args .epoch) (c .before .before .before .before .before .before .before .before .before .before .before .before .before .before .before .args .words .now)) k (c .before .before .before .before .before .before .before .before .loop .next) (tapeAt (c .before .before .before .before .before .before .before .before .before .before .before .before .before .before .before .args .answers .now) (c .before .before .before .before .before .before .before .before .loop .place)))) (sym (let z : c .before .before .before .before .before .before .before .before .loop .left ≡ suc (c .before .before .before .before .before .before .before .before .loop .left - 1) = omega arith in z)) ∙ c .before .before .before .before .before .before .before .before .loop .inv .3))
+loop-again c = (omega arith, omega arith, (c .before .before .before .before .before .try-output-at .kept .1 .1 .1 .1 .1 .1 .1 .0 ∙ c .before .before .before .before .before .before .before .before .before .loop .inv .2), tried-goes (nodes (c .before .before .before .before .before .before .before .before .before .before .before .before .before .before .before .before .args .state .now)) (beside (c .before .before .before .before .before .before .before .before .before .before .before .before .before .before .before .before .args .state .now) (c .before .before .before .before .before .before .before .before .before .before .before .before .before .before .before .before .args .epoch) (c .before .before .before .before .before .before .before .before .before .before .before .before .before .before .before .before .args .words .now)) (c .before .before .before .before .before .before .before .before .before .loop .left - 1) (c .before .before .before .before .before .before .before .before .before .loop .next) _ _ _ (c .before .before .before .before .before .try-output-at .ensures) (ap triedVerdict (c .enum-told .given .1)) ∙ (ap (λ k. leaves (out (c .before .before .before .before .before .before .before .before .before .loop .s) (c .before .before .before .before .before .before .before .before .before .loop .table)) (batchesFrom (nodes (c .before .before .before .before .before .before .before .before .before .before .before .before .before .before .before .before .args .state .now)) (beside (c .before .before .before .before .before .before .before .before .before .before .before .before .before .before .before .before .args .state .now) (c .before .before .before .before .before .before .before .before .before .before .before .before .before .before .before .before .args .epoch) (c .before .before .before .before .before .before .before .before .before .before .before .before .before .before .before .before .args .words .now)) k (c .before .before .before .before .before .before .before .before .before .loop .next) (tapeAt (c .before .before .before .before .before .before .before .before .before .before .before .before .before .before .before .before .args .answers .now) (c .before .before .before .before .before .before .before .before .before .loop .place)))) (sym (let z : c .before .before .before .before .before .before .before .before .before .loop .left ≡ suc (c .before .before .before .before .before .before .before .before .before .loop .left - 1) = omega arith in z)) ∙ c .before .before .before .before .before .before .before .before .before .loop .inv .3))
 
 -- src/honey_badger.rt:137:1
 same-length-2 : tie.Need-same-length-2 Inv-loop μ-loop
@@ -90,6 +94,7 @@ try-output-batches-spec =
     shared-slice-read-next
     loop-holds
     try-output-at-requires
+    enum-told
     same-length
     returns
     add-next
