@@ -181,9 +181,9 @@ pub record Seen : Type 0 where
 abbrev pub seen : Handed → Seen
 seen x = record { batch = x .batch; unreadable = unreadable x }
 
-unfoldable pub seenIn : List Handed → List Seen
-seenIn [] = []
-seenIn (x ∷ xs) = seen x ∷ seenIn xs
+unfoldable pub batchesSeen : List Handed → List Seen
+batchesSeen [] = []
+batchesSeen (x ∷ xs) = seen x ∷ batchesSeen xs
 
 abbrev pub entry : ℕ → ℕ → BatchEntry
 entry p plaintext = record { proposer = p; plaintext = plaintext }
@@ -195,10 +195,10 @@ handedOut =
     ∷ record { batch = record { epoch = 1; count = 2; entries = entry 0 13 ∷ entry 1 14 ∷ [] }; unreadable = [] }
     ∷ []
 
-pub seen-a : seenIn (handed 2 (encryptedOf hostA) (historyOf hostA)) ≡ handedOut
-unfolding opened table hostA seenIn handedOut
+pub seen-a : batchesSeen (handed 2 (encryptedOf hostA) (historyOf hostA)) ≡ handedOut
+unfolding opened table hostA batchesSeen handedOut
 seen-a = refl
 
-pub seen-b : seenIn (handed 2 (encryptedOf hostB) (historyOf hostB)) ≡ handedOut
-unfolding opened table hostB seenIn handedOut
+pub seen-b : batchesSeen (handed 2 (encryptedOf hostB) (historyOf hostB)) ≡ handedOut
+unfolding opened table hostB batchesSeen handedOut
 seen-b = refl

@@ -16,7 +16,7 @@ use Rattle.steps.proofs.CaseTables.{table}
 use Rattle.state.specs.State.{stateLength, scratchLength}
 use Rattle.agreement.specs.History.{Call, propose, message, skip, Event, handed, valueTaken, decisionTaken, readings}
 use Rattle.agreement.specs.Demand3.{Made, turnsOf, historyOf, encryptedOf}
-use Rattle.agreement.proofs.FirstPairRuns.{built, serialised, broadcast, delivered, voted, reads, readsNot, repliesIn, Seen, seenIn, entry}
+use Rattle.agreement.proofs.FirstPairRuns.{built, serialised, broadcast, delivered, voted, reads, readsNot, repliesIn, Seen, batchesSeen, entry}
 use Rattle.agreement.specs.Opened.{opened}
 
 -- ANSWERS, besides those of the first pair. Vote 0 for p decides 0
@@ -270,10 +270,10 @@ readings-d = refl
 abbrev with : List ℕ → Batch → Seen
 with unreadable b = record { batch = b; unreadable = unreadable }
 
-pub seen-c : seenIn (handed 4 (encryptedOf hostC) (eventsOf 1 linesC)) ≡ with [] batch1 ∷ with (0 ∷ []) batch2 ∷ []
-unfolding opened told eventsOf linesC hostC seenIn
+pub seen-c : batchesSeen (handed 4 (encryptedOf hostC) (eventsOf 1 linesC)) ≡ with [] batch1 ∷ with (0 ∷ []) batch2 ∷ []
+unfolding opened told eventsOf linesC hostC batchesSeen
 seen-c = refl
 
-pub seen-d : seenIn (handed 4 (encryptedOf hostD) (eventsOf 0 linesD)) ≡ with (0 ∷ []) batch2 ∷ with [] batch3 ∷ []
-unfolding opened told eventsOf linesD hostD seenIn
+pub seen-d : batchesSeen (handed 4 (encryptedOf hostD) (eventsOf 0 linesD)) ≡ with (0 ∷ []) batch2 ∷ with [] batch3 ∷ []
+unfolding opened told eventsOf linesD hostD batchesSeen
 seen-d = refl

@@ -11,7 +11,7 @@ use Rattle.steps.specs.Network.{Network}
 use Rattle.steps.specs.Taken.{firstTaken, ofValue, ofDecision, isAsked, onesFrom}
 use Rattle.subset.specs.Words.{newEpoch, decidedAt}
 use Rattle.subset.specs.Opened.{opened}
-use Rattle.subset.specs.Rule.{SubsetCall, SubsetEvent, proposing, broadcasting, agreeing, answers, tablesOk, takenBy, runOf, wordsAs, thenWords, wordsAfter, Contribution, contributionsFrom, contributions, decidedBefore7, speaks}
+use Rattle.subset.specs.Rule.{settledFrom, isOver, SubsetCall, SubsetEvent, proposing, broadcasting, agreeing, answers, tablesOk, takenBy, runOf, wordsAs, thenWords, wordsAfter, Contribution, contributionsFrom, contributions, decidedBefore7, speaks}
 
 abbrev four : NetworkInfo
 four = record { «num_nodes» = 4; «num_faulty» = 1; «our_id» = 0; «has_key» = true }
@@ -44,6 +44,12 @@ seen (some w) = some (getD w decidedAt 0, contributions 4 w)
 pub four-run : seen (wordsAfter four (newEpoch 4) (earlier ++ (third ∷ []))) ≡ some (1, contribution 0 7 ∷ contribution 1 8 ∷ contribution 2 9 ∷ [])
 unfolding opened runOf wordsAs thenWords wordsAfter contributionsFrom
 four-run = refl
+
+-- three ones of four, N−f, and their values are enough; two are not
+pub four-over : (isOver four (takenBy ofValue (earlier ++ (third ∷ []))) (takenBy ofDecision (earlier ++ (third ∷ []))) ≡ true)
+    × (isOver four (takenBy ofValue earlier) (takenBy ofDecision earlier) ≡ false)
+unfolding opened takenBy settledFrom isOver
+four-over = (refl, refl)
 
 pub four-network : Network four
 four-network = record { some = omega arith; sixteen = omega arith; faulty = omega arith; own = omega arith }
