@@ -22,10 +22,10 @@ sys.path.insert(0, str(ROOT / "tools"))
 import quick  # noqa: E402
 
 ORACLE = ROOT / "oracle" / "target" / "release" / "oracle"
-LAYERS = {"steps": "", "decryption": "steps", "proposal": "steps", "subset": "proposal steps", "epochwords": "decryption steps subset",
-          "epoch": "decryption epochwords proposal steps subset", "state": "decryption epochwords steps subset",
-          "work": "decryption epoch epochwords proposal state steps subset", "calls": "decryption epoch state steps subset work",
-          "engine": "calls decryption epoch state steps subset work"}
+LAYERS = {"steps": "", "network": "steps", "decryption": "network steps", "proposal": "steps", "subset": "network proposal steps",
+          "epochwords": "decryption steps subset", "epoch": "decryption epochwords network proposal steps subset",
+          "state": "decryption epochwords network steps subset", "work": "decryption epoch epochwords network proposal state steps subset",
+          "calls": "decryption epoch network state steps subset work", "engine": "calls decryption epoch network state steps subset work"}
 
 JUDGE = """-- What a run of the original was given and what it made of it, and whether the definitions make the same of it.
 use Prim.Native.Nat.{ℕ, zero, suc, _+_, _*_}
@@ -155,7 +155,7 @@ def make_repository(folder):
     (judged / "specs").mkdir()
     (judged / "specs" / "Judge.antt").write_text(JUDGE)
     (judged / "specs" / "Opened.antt").write_text(opened(unfoldable(folder / "crates"), "judged"))
-    lines = [f"{layer}: {below}\n" for layer, below in LAYERS.items()] + ["judged: calls decryption engine epoch epochwords proposal state steps subset work\n"]
+    lines = [f"{layer}: {below}\n" for layer, below in LAYERS.items()] + ["judged: calls decryption engine epoch epochwords network proposal state steps subset work\n"]
     (folder / "crates.txt").write_text("".join(lines))
 
 

@@ -9,8 +9,8 @@ use mathlib.Core.Option.{Option, none}
 use lib.Dec.{leb}
 use lib.ListN.{getD}
 use borrow.Author.Tests.{eqb-true, le-leb}
-use Rattle.steps.specs.declared.network_info.NetworkInfo.{NetworkInfo}
-use Rattle.steps.specs.Network.{Network, numCorrect}
+use Rattle.network.specs.declared.network_info.NetworkInfo.{NetworkInfo}
+use Rattle.network.specs.Network.{Network, numCorrect}
 use Rattle.steps.specs.Taken.{orElse, isThere, isTrue, onesFrom}
 use Rattle.steps.proofs.ChainLaws.{and-true}
 use Rattle.subset.specs.Words.{statusAt}

@@ -9,10 +9,10 @@ use mathlib.Core.Option.{Option, none}
 use lib.Dec.{eqb, ltb}
 use lib.ListN.{set}
 use borrow.Author.Tests.{eqb-true, eqb-false, ltb-true, ltb-false}
-use Rattle.steps.specs.declared.network_info.NetworkInfo.{NetworkInfo}
+use Rattle.network.specs.declared.network_info.NetworkInfo.{NetworkInfo}
 use Rattle.steps.specs.declared.reader.Answer.{Answer}
 use Rattle.steps.specs.declared.reader.Answer.the-variants.{Got, Refused}
-use Rattle.steps.specs.Network.{Network, isValidator}
+use Rattle.network.specs.Network.{Network, isValidator}
 use Rattle.steps.specs.Answers.{Rec, Tape, Asked, ask, askAbout, tapeOf}
 use Rattle.steps.specs.Steps.{Entry}
 use Rattle.steps.specs.Runs.{Verdict, going, refused, failed, Run, ends, onwardAs, onward, heardAs, heard, inside}

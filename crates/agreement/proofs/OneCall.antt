@@ -9,8 +9,8 @@ use mathlib.Core.Option.{Option, none}
 use lib.Dec.{eqb, leb, ltb}
 use lib.ListN.{length, getD, set, length-set, length-replicate}
 use borrow.Author.Tests.{eqb-true, eq-eqb, ltb-true, ltb-false, le-leb, lt-leb}
-use Rattle.steps.specs.declared.network_info.NetworkInfo.{NetworkInfo}
-use Rattle.steps.specs.Network.{Network, isValidator}
+use Rattle.network.specs.declared.network_info.NetworkInfo.{NetworkInfo}
+use Rattle.network.specs.Network.{Network, isValidator}
 use Rattle.steps.specs.Answers.{Rec, Tape, tape}
 use Rattle.steps.specs.Table.{within}
 use Rattle.steps.specs.Steps.{Entry, fault, item, faults, outputs}

@@ -10,8 +10,8 @@ use lib.Dec.{eqb, leb, ltb}
 use lib.ListN.{length, set}
 use borrow.Author.Tests.{eqb-true, eqb-false, ltb-true, leb-true, leb-false}
 use Rattle.steps.specs.Numbers.{faultLimit, lastEpoch}
-use Rattle.steps.specs.declared.network_info.NetworkInfo.{NetworkInfo}
-use Rattle.steps.specs.Network.{Network}
+use Rattle.network.specs.declared.network_info.NetworkInfo.{NetworkInfo}
+use Rattle.network.specs.Network.{Network}
 use Rattle.steps.specs.Answers.{Rec, tapeOf}
 use Rattle.steps.specs.Steps.{Entry, faults, outputs}
 use Rattle.steps.specs.Table.{within}

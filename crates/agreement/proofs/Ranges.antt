@@ -8,7 +8,7 @@ use lib.ListN.{length, set}
 use lib.Dec.{eqb, leb, ltb}
 use borrow.Author.Tests.{eqb-true, leb-true, ltb-true, ltb-false}
 use Rattle.steps.specs.Numbers.{lastEpoch, faultLimit}
-use Rattle.steps.specs.Network.{isValidator}
+use Rattle.network.specs.Network.{isValidator}
 use Rattle.steps.specs.Table.{handle, within, tableOk}
 use Rattle.steps.specs.Answers.{Tape, tapeOf}
 use Rattle.steps.specs.Steps.{Entry, faults}

@@ -8,8 +8,8 @@ use mathlib.Core.Bool.{Bool, true, false, cond, _&&_, not}
 use mathlib.Core.Option.{Option, none, some}
 use lib.Dec.{eqb}
 use Rattle.steps.specs.Numbers.{agreementMessage, proposeTrue, proposeFalse, ciphertextReads}
-use Rattle.steps.specs.declared.network_info.NetworkInfo.{NetworkInfo}
-use Rattle.steps.specs.Network.{isValidator, numCorrect}
+use Rattle.network.specs.declared.network_info.NetworkInfo.{NetworkInfo}
+use Rattle.network.specs.Network.{isValidator, numCorrect}
 use Rattle.steps.specs.Table.{within}
 use Rattle.steps.specs.Taken.{orElse, isThere, isTrue, firstTaken, ofValue, isAsked, onesFrom}
 use Rattle.subset.specs.Rule.{isOver}

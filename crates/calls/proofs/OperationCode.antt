@@ -5,7 +5,7 @@ use mathlib.Core.Path.{_≡_, sym, _∙_}
 use mathlib.Core.List.{List, [], _∷_}
 use mathlib.Core.Bool.{true, false}
 use borrow.Author.Tests.{lt-ltb, le-ltb}
-use Rattle.steps.specs.Network.{isValidator}
+use Rattle.network.specs.Network.{isValidator}
 use Rattle.steps.specs.Answers.{Tape}
 use Rattle.steps.specs.Steps.{fault}
 use Rattle.steps.specs.Runs.{going, ends, before}

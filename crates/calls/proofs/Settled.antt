@@ -9,7 +9,7 @@ use lib.Seq.{set-getD}
 use lib.Dec.{ltb}
 use borrow.Author.Tests.{le-leb}
 use Rattle.steps.specs.Numbers.{faultLimit}
-use Rattle.steps.specs.Network.{isValidator}
+use Rattle.network.specs.Network.{isValidator}
 use Rattle.steps.specs.Answers.{Tape}
 use Rattle.steps.specs.Steps.{fault, faults}
 use Rattle.steps.specs.Runs.{going, Run, ends, before, inside}

@@ -1,6 +1,6 @@
 -- How many entries threshold decryption writes: one for each answer, and fault 6 besides. Assumes nothing.
 use Prim.Native.Nat.{ℕ}
-use Rattle.steps.specs.declared.network_info.NetworkInfo.{NetworkInfo}
+use Rattle.network.specs.declared.network_info.NetworkInfo.{NetworkInfo}
 use Rattle.steps.specs.Answers.{Tape}
 use Rattle.steps.specs.Runs.{Run}
 use Rattle.steps.proofs.Logic.{anything}

@@ -8,10 +8,10 @@ use native.Mathlib.Omega.{arith}
 use lib.ListN.{set}
 use lib.Dec.{eqb}
 use borrow.Author.Tests.{ltb-true, le-leb, lt-leb, eq-eqb, ne-eqb}
-use Rattle.steps.specs.declared.network_info.NetworkInfo.{NetworkInfo}
+use Rattle.network.specs.declared.network_info.NetworkInfo.{NetworkInfo}
 use Rattle.steps.specs.declared.reader.Answer.{Answer}
 use Rattle.steps.specs.declared.reader.Answer.the-variants.{Got, Refused as NoAnswer}
-use Rattle.steps.specs.Network.{Network, isValidator}
+use Rattle.network.specs.Network.{Network, isValidator}
 use Rattle.steps.specs.Answers.{Tape, asked, ask}
 use Rattle.steps.specs.Steps.{Out, putEntry, putAll, message}
 use Rattle.steps.specs.Runs.{going, refused, failed, ends, before, onwardAs, onward, heard, Left, leaves}

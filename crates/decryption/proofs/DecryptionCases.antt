@@ -7,7 +7,7 @@ use mathlib.Core.Bool.{Bool, true, false, cond}
 use mathlib.Core.Option.{Option, none, some}
 use lib.ListN.{length, set, replicate}
 use lib.Dec.{eqb}
-use Rattle.steps.specs.declared.network_info.NetworkInfo.{NetworkInfo}
+use Rattle.network.specs.declared.network_info.NetworkInfo.{NetworkInfo}
 use Rattle.steps.specs.Steps.{Entry, message, fault, Item}
 use Rattle.steps.specs.Runs.{Verdict, going, refused, failed, Run, numberOf}
 use Rattle.steps.proofs.CaseTables

@@ -7,7 +7,7 @@ use mathlib.Core.Option.{Option, none}
 use lib.ListN.{getD, set}
 use lib.Dec.{leb, eqb}
 use borrow.Author.Tests.{eqb-true, eqb-false, leb-true, leb-false, not-true, ne-eqb}
-use Rattle.steps.specs.declared.network_info.NetworkInfo.{NetworkInfo}
+use Rattle.network.specs.declared.network_info.NetworkInfo.{NetworkInfo}
 use Rattle.steps.specs.declared.reader.Answer.the-variants.{Got}
 use Rattle.steps.specs.Answers.{Tape, asked, askAbout}
 use Rattle.steps.specs.Steps.{fault}

@@ -6,7 +6,7 @@ use mathlib.Core.Bool.{true, false}
 use mathlib.Core.Option.{Option, none}
 use lib.ListN.{getD, set}
 use borrow.Author.Tests.{eq-eqb, ne-eqb}
-use Rattle.steps.specs.declared.network_info.NetworkInfo.{NetworkInfo}
+use Rattle.network.specs.declared.network_info.NetworkInfo.{NetworkInfo}
 use Rattle.steps.specs.Answers.{Tape}
 use Rattle.steps.specs.Steps.{Out, putEntry, putAll, fault}
 use Rattle.steps.specs.Runs.{going, refused, ends, before, onwardAs, onward, leaves}

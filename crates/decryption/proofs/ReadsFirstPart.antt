@@ -1,6 +1,6 @@
 -- Every operation reads a first part of the chain, and stands behind it afterwards. Assumes nothing.
 use Prim.Native.Nat.{ℕ}
-use Rattle.steps.specs.declared.network_info.NetworkInfo.{NetworkInfo}
+use Rattle.network.specs.declared.network_info.NetworkInfo.{NetworkInfo}
 use Rattle.steps.specs.Answers.{Tape}
 use Rattle.steps.specs.Runs.{Run}
 use Rattle.steps.proofs.Logic.{anything}

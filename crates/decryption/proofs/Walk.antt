@@ -6,8 +6,8 @@ use mathlib.Core.Option.{Option, none, some}
 use native.Mathlib.Omega.{arith}
 use lib.ListN.{set}
 use lib.Dec.{leb, eqb}
-use Rattle.steps.specs.declared.network_info.NetworkInfo.{NetworkInfo}
-use Rattle.steps.specs.Network.{isValidator}
+use Rattle.network.specs.declared.network_info.NetworkInfo.{NetworkInfo}
+use Rattle.network.specs.Network.{isValidator}
 use Rattle.steps.specs.Table.{within}
 use Rattle.steps.specs.Answers.{Tape}
 use Rattle.steps.specs.Steps.{message, fault}

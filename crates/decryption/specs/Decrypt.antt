@@ -6,8 +6,8 @@ use mathlib.Core.Option.{Option, none, some}
 use lib.ListN.{getD, set, replicate}
 use lib.Dec.{leb, eqb}
 use Rattle.steps.specs.Numbers.{ciphertextVerifies, shareVerifies, ownDecryptionShare, contributionDecrypted, shareContent, multipleDecryptionShares, unverifiedDecryptionShareSender, decryption, multipleInputs, nodeLimit}
-use Rattle.steps.specs.declared.network_info.NetworkInfo.{NetworkInfo}
-use Rattle.steps.specs.Network.{isValidator}
+use Rattle.network.specs.declared.network_info.NetworkInfo.{NetworkInfo}
+use Rattle.network.specs.Network.{isValidator}
 use Rattle.steps.specs.Answers.{Tape, ask, askAbout}
 use Rattle.steps.specs.Steps.{message, fault}
 use Rattle.steps.specs.Runs.{going, failed, Run, ends, before, onward, heard}

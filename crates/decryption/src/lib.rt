@@ -5,7 +5,7 @@
 ghost use mathlib.Core.Path.{_≡_};
 ghost use Prim.Native.Nat.{ℕ, _<_};
 ghost use mathlib.Core.List.{List};
-ghost use Rattle.steps.specs.Network.{Network};
+ghost use Rattle.network.specs.Network.{Network};
 ghost use Rattle.steps.specs.Answers.{tapeAt};
 ghost use Rattle.steps.specs.declared.step.Step.{Step};
 ghost use Rattle.steps.specs.Steps.{out};
@@ -13,7 +13,7 @@ ghost use Rattle.steps.specs.Runs.{leaves};
 ghost use Rattle.decryption.specs.declared.ThresholdDecrypt.{ThresholdDecrypt};
 ghost use Rattle.decryption.specs.Outcomes.{leftSet, leftValid, leftChecked, left, handled};
 ghost use Rattle.decryption.specs.Decrypt.{new, isSender, countShares, setCiphertext, isShareValid, removeInvalidShares, combine, startDecryption, tryOutput, storeShare, handleMessage};
-use steps::network_info::NetworkInfo;
+use network::network_info::NetworkInfo;
 use steps::numbers::CIPHERTEXT_VERIFIES;
 use steps::numbers::CONTRIBUTION_DECRYPTED;
 use steps::numbers::MULTIPLE_DECRYPTION_SHARES;

@@ -4,7 +4,7 @@ use Prim.Native.Nat.{ℕ, _+_}
 use mathlib.Core.List.{List}
 use mathlib.Core.Bool.{Bool}
 use native.Mathlib.Omega.{arith}
-use Rattle.steps.specs.declared.network_info.NetworkInfo.{NetworkInfo}
+use Rattle.network.specs.declared.network_info.NetworkInfo.{NetworkInfo}
 use Rattle.steps.proofs.Logic.{anything}
 use Rattle.steps.proofs.Bounded.{bounded-wider, spends-bounded, counting}
 use Rattle.decryption.specs.declared.ThresholdDecrypt.{ThresholdDecrypt}

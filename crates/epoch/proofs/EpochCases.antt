@@ -6,7 +6,7 @@ use mathlib.Core.Bool.{Bool, true, false, cond}
 use lib.ListN.{length, getD}
 use lib.Dec.{eqb}
 use Rattle.steps.specs.declared.reader.Content.the-variants.{Broadcast, Agreement}
-use Rattle.steps.specs.declared.network_info.NetworkInfo.{NetworkInfo}
+use Rattle.network.specs.declared.network_info.NetworkInfo.{NetworkInfo}
 use Rattle.steps.specs.Steps.{Entry, message, fault, output, Item}
 use Rattle.steps.specs.Runs.{Run, numberOf}
 use Rattle.steps.proofs.CaseTables

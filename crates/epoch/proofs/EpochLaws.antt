@@ -13,8 +13,8 @@ use lib.Dec.{eqb}
 use borrow.Author.Tests.{eqb-true, eqb-false}
 use Rattle.steps.specs.declared.reader.Content.{Content}
 use Rattle.steps.specs.declared.reader.Content.the-variants.{Broadcast, Agreement}
-use Rattle.steps.specs.declared.network_info.NetworkInfo.{NetworkInfo}
-use Rattle.steps.specs.Network.{Network, isValidator}
+use Rattle.network.specs.declared.network_info.NetworkInfo.{NetworkInfo}
+use Rattle.network.specs.Network.{Network, isValidator}
 use Rattle.steps.specs.Answers.{Rec, Tape}
 use Rattle.steps.specs.Table.{within}
 use Rattle.steps.specs.Runs.{Verdict, going, refused, failed, Run}

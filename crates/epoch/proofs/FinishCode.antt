@@ -7,7 +7,7 @@ use mathlib.Core.Bool.{Bool, true, false, cond}
 use lib.ListN.{getD, set}
 use lib.Dec.{eqb}
 use borrow.Author.Tests.{eq-eqb, ne-eqb}
-use Rattle.steps.specs.declared.network_info.NetworkInfo.{NetworkInfo}
+use Rattle.network.specs.declared.network_info.NetworkInfo.{NetworkInfo}
 use Rattle.steps.specs.Answers.{Tape}
 use Rattle.steps.specs.Steps.{Entry, Out, putEntry, putAll, fault}
 use Rattle.steps.specs.Runs.{going, ends, before, onwardAs, onward, leaves}

@@ -6,8 +6,8 @@ use mathlib.Core.Bool.{Bool, true, cond, not}
 use mathlib.Core.Option.{Option, none, some}
 use lib.ListN.{length, getD}
 use lib.Dec.{eqb}
-use Rattle.steps.specs.declared.network_info.NetworkInfo.{NetworkInfo}
-use Rattle.steps.specs.Network.{Network, isValidator, numCorrect}
+use Rattle.network.specs.declared.network_info.NetworkInfo.{NetworkInfo}
+use Rattle.network.specs.Network.{Network, isValidator, numCorrect}
 use Rattle.steps.specs.Answers.{Rec, Tape}
 use Rattle.steps.specs.Steps.{Entry, Item, faults, outputs}
 use Rattle.steps.specs.Taken.{orElse, isThere, isTrue, firstTaken, ofValue, ofDecision, onesFrom, firstDecrypted, thirteensIn}

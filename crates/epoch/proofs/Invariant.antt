@@ -10,8 +10,8 @@ use lib.ListN.{length, getD, set, length-set}
 use lib.Seq.{getD-set-same, getD-set-other}
 use lib.Dec.{leb}
 use borrow.Author.Tests.{leb-true}
-use Rattle.steps.specs.declared.network_info.NetworkInfo.{NetworkInfo}
-use Rattle.steps.specs.Network.{numCorrect}
+use Rattle.network.specs.declared.network_info.NetworkInfo.{NetworkInfo}
+use Rattle.network.specs.Network.{numCorrect}
 use Rattle.steps.specs.Answers.{Rec, Tape}
 use Rattle.steps.specs.Runs.{going, ends}
 use Rattle.steps.specs.Taken.{isThere, isTrue, onesFrom}

@@ -10,8 +10,8 @@ use lib.ListN.{getD, set}
 use lib.Seq.{getD-set-other}
 use lib.Dec.{eqb}
 use borrow.Author.Tests.{eqb-true, eqb-false, le-leb}
-use Rattle.steps.specs.declared.network_info.NetworkInfo.{NetworkInfo}
-use Rattle.steps.specs.Network.{numCorrect}
+use Rattle.network.specs.declared.network_info.NetworkInfo.{NetworkInfo}
+use Rattle.network.specs.Network.{numCorrect}
 use Rattle.steps.specs.Answers.{Rec, Tape}
 use Rattle.steps.specs.Runs.{Verdict, going, refused, failed, Run, ends}
 use Rattle.steps.specs.Taken.{orElse, isThere, isTrue, firstTaken, ofValue, ofDecision, onesFrom}

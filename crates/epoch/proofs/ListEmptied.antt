@@ -9,7 +9,7 @@ use lib.ListN.{replicate, length, getD, set, List·getD-eq-default}
 use lib.Seq.{getD-set-same, getD-set-other, set-out}
 use lib.Dec.{eqb, ltb}
 use borrow.Author.Tests.{ltb-true, ltb-false}
-use Rattle.steps.specs.declared.network_info.NetworkInfo.{NetworkInfo}
+use Rattle.network.specs.declared.network_info.NetworkInfo.{NetworkInfo}
 use Rattle.steps.specs.Answers.{Tape, ask}
 use Rattle.steps.specs.Runs.{Verdict, going, refused, failed, Run, onwardAs, onward, inside}
 use Rattle.steps.proofs.Ranges.{zeros-at}

@@ -9,7 +9,7 @@ use lib.ListN.{getD, set}
 use lib.Seq.{getD-set-other}
 use lib.Dec.{ltb}
 use borrow.Author.Tests.{ltb-true}
-use Rattle.steps.specs.declared.network_info.NetworkInfo.{NetworkInfo}
+use Rattle.network.specs.declared.network_info.NetworkInfo.{NetworkInfo}
 use Rattle.steps.specs.declared.reader.Content.{Content}
 use Rattle.steps.specs.Answers.{Tape}
 use Rattle.steps.specs.Steps.{Out}

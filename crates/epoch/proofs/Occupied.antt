@@ -6,7 +6,7 @@ use mathlib.Core.List.{List, [], _∷_}
 use mathlib.Core.Bool.{Bool, false, false≢true}
 use lib.ListN.{set, replicate, length-replicate}
 use lib.Seq.{getD-set-same, getD-set-other}
-use Rattle.steps.specs.declared.network_info.NetworkInfo.{NetworkInfo}
+use Rattle.network.specs.declared.network_info.NetworkInfo.{NetworkInfo}
 use Rattle.steps.specs.Answers.{Tape}
 use Rattle.subset.specs.Words.{epochLength, statusAt}
 use Rattle.epochwords.specs.declared.SubsetHandlingStrategy.{SubsetHandlingStrategy}

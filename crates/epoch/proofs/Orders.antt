@@ -12,7 +12,7 @@ use lib.Seq.{getD-set-other}
 use lib.Dec.{eqb}
 use borrow.Author.Tests.{eqb-true, eq-eqb, ne-eqb}
 use lib.Count.{ones}
-use Rattle.steps.specs.declared.network_info.NetworkInfo.{NetworkInfo}
+use Rattle.network.specs.declared.network_info.NetworkInfo.{NetworkInfo}
 use Rattle.steps.specs.Answers.{Rec, Tape, tape, askFor, askAbout}
 use Rattle.steps.specs.Steps.{Entry, fault}
 use Rattle.steps.specs.Runs.{going, Run, ends, before, onwardAs, onward, heardAs, heard, inside}

@@ -8,7 +8,7 @@ use mathlib.Core.Bool.{Bool, true, false, cond}
 use mathlib.Core.Option.{Option, none, some}
 use lib.Dec.{leb, eqb}
 use borrow.Author.Tests.{eqb-true, eqb-false, ne-eqb, leb-true}
-use Rattle.steps.specs.declared.network_info.NetworkInfo.{NetworkInfo}
+use Rattle.network.specs.declared.network_info.NetworkInfo.{NetworkInfo}
 use Rattle.steps.specs.Answers.{Rec, Tape}
 use Rattle.steps.specs.Taken.{orElse, concernedAfter, concerns, firstDecrypted}
 use Rattle.steps.proofs.ChainLaws.{and-true}

@@ -10,7 +10,7 @@ use lib.Seq.{getD-set-other}
 use lib.Dec.{leb, ltb, eqb}
 use borrow.Author.Tests.{leb-true, le-leb, ne-eqb, lt-leb}
 use Rattle.steps.specs.declared.reader.Content.{Content}
-use Rattle.steps.specs.declared.network_info.NetworkInfo.{NetworkInfo}
+use Rattle.network.specs.declared.network_info.NetworkInfo.{NetworkInfo}
 use Rattle.steps.specs.Answers.{Rec, Tape}
 use Rattle.steps.specs.Table.{within}
 use Rattle.steps.specs.Runs.{Run}

@@ -5,7 +5,7 @@ use mathlib.Core.List.{List}
 use mathlib.Core.Bool.{Bool}
 use mathlib.Core.Option.{Option, none, some}
 use native.Mathlib.Omega.{arith}
-use Rattle.steps.specs.declared.network_info.NetworkInfo.{NetworkInfo}
+use Rattle.network.specs.declared.network_info.NetworkInfo.{NetworkInfo}
 use Rattle.steps.specs.Runs.{Verdict, going, refused, failed}
 use Rattle.steps.proofs.Ranges.{Says, SmallOption, kept-any, small, keeping, kept-inside, below-zeros}
 use Rattle.decryption.specs.declared.ThresholdDecrypt.{ThresholdDecrypt}

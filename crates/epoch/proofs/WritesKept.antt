@@ -7,7 +7,7 @@ use mathlib.Core.Bool.{Bool, true, false, cond}
 use mathlib.Core.Option.{Option, none, some}
 use lib.ListN.{getD, set}
 use lib.Dec.{ltb}
-use Rattle.steps.specs.declared.network_info.NetworkInfo.{NetworkInfo}
+use Rattle.network.specs.declared.network_info.NetworkInfo.{NetworkInfo}
 use Rattle.steps.specs.Answers.{Tape}
 use Rattle.decryption.specs.declared.ThresholdDecrypt.{ThresholdDecrypt}
 use Rattle.decryption.specs.Decrypt.{new}

@@ -6,7 +6,7 @@ use mathlib.Core.Option.{Option, none, some}
 use lib.ListN.{getD, set}
 use lib.Dec.{eqb}
 use Rattle.steps.specs.Numbers.{proposalSerialised, ciphertextReads, unexpectedDecryptionShare, deserializeCiphertext, invalidCiphertext, proposeBincode, inputSubset, handleSubsetMessage}
-use Rattle.steps.specs.declared.network_info.NetworkInfo.{NetworkInfo}
+use Rattle.network.specs.declared.network_info.NetworkInfo.{NetworkInfo}
 use Rattle.steps.specs.Answers.{Tape, ask, askAbout}
 use Rattle.steps.specs.Steps.{Entry, fault}
 use Rattle.steps.specs.Runs.{Verdict, going, refused, failed, Run, ends, before, onward, heard, inside}

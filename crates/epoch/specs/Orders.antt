@@ -6,7 +6,7 @@ use mathlib.Core.Bool.{Bool, cond, _&&_, not}
 use lib.ListN.{getD}
 use lib.Dec.{eqb}
 use Rattle.steps.specs.Numbers.{unexpectedDecryptionShare}
-use Rattle.steps.specs.declared.network_info.NetworkInfo.{NetworkInfo}
+use Rattle.network.specs.declared.network_info.NetworkInfo.{NetworkInfo}
 use Rattle.steps.specs.Answers.{Tape}
 use Rattle.steps.specs.Steps.{Entry, fault}
 use Rattle.steps.specs.Runs.{going, Run, ends, onward}

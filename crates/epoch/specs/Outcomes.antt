@@ -4,7 +4,7 @@ use mathlib.Core.List.{List}
 use mathlib.Core.Bool.{Bool, true, false, cond}
 use lib.Dec.{eqb}
 use mathlib.Core.Option.{Option, none, some}
-use Rattle.steps.specs.declared.network_info.NetworkInfo.{NetworkInfo}
+use Rattle.network.specs.declared.network_info.NetworkInfo.{NetworkInfo}
 use Rattle.steps.specs.Numbers.{proposalSerialised, proposeBincode, inputSubset, handleSubsetMessage}
 use Rattle.steps.specs.Answers.{Tape, ask}
 use Rattle.steps.specs.declared.step.Step.{Step}

@@ -15,7 +15,7 @@
 ghost use mathlib.Core.Path.{_≡_};
 ghost use Prim.Native.Nat.{_≤_, _<_};
 ghost use lib.ListN.{length};
-ghost use Rattle.steps.specs.Network.{Network};
+ghost use Rattle.network.specs.Network.{Network};
 ghost use Rattle.subset.specs.Words.{epochLength};
 ghost use Rattle.epochwords.specs.Shape.{EpochWords};
 use epoch::MessageContent;
@@ -34,7 +34,7 @@ use lines::line_end;
 use lines::number;
 use lines::numbers;
 use lines::say;
-use steps::network_info::NetworkInfo;
+use network::network_info::NetworkInfo;
 use steps::numbers::AGREEMENT_CONTENT;
 use steps::numbers::ANSWER_NOT_NEXT;
 use steps::numbers::ANSWERS_UNREAD;

@@ -10,7 +10,7 @@ use lib.Seq.{getD-set-same, getD-set-other}
 use lib.Dec.{eqb, leb}
 use borrow.Author.Tests.{eqb-true, eqb-false, leb-true, ltb-true, eq-eqb, le-leb}
 use Rattle.steps.specs.Numbers.{lastEpoch, faultLimit}
-use Rattle.steps.specs.Network.{Network}
+use Rattle.network.specs.Network.{Network}
 use Rattle.steps.proofs.ChainLaws.{and-true}
 use Rattle.steps.proofs.Ranges.{and-both, zeros-at, below-zeros}
 use Rattle.subset.specs.Words.{epochLength, countAt, countOf}

@@ -9,7 +9,7 @@ ghost use Rattle.state.specs.State.{headerLength, nodes, schedule, first
 ghost use Rattle.state.specs.Shape.{StateWords, Divides};
 use crate::schedule::schedule_of;
 use epochwords::SubsetHandlingStrategy;
-use steps::network_info::NetworkInfo;
+use network::network_info::NetworkInfo;
 use subset::words::RECORD_FIELDS;
 use subset::words::RECORDS_AT;
 

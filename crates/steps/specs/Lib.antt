@@ -1,5 +1,4 @@
 pub mod Numbers
-pub mod Network
 pub mod Table
 pub mod Verdicts
 pub mod Answers

@@ -11,8 +11,8 @@ use lib.Seq.{getD-set-same, getD-set-other}
 use lib.Dec.{eqb, ltb}
 use borrow.Author.Tests.{eqb-true, eqb-false, ne-eqb, ltb-true, ltb-false, le-leb, lt-leb}
 use Rattle.steps.specs.declared.reader.Content.the-variants.{Broadcast, Agreement}
-use Rattle.steps.specs.declared.network_info.NetworkInfo.{NetworkInfo}
-use Rattle.steps.specs.Network.{isValidator, numCorrect}
+use Rattle.network.specs.declared.network_info.NetworkInfo.{NetworkInfo}
+use Rattle.network.specs.Network.{isValidator, numCorrect}
 use Rattle.steps.specs.Answers.{Rec, Tape}
 use Rattle.steps.specs.Table.{within}
 use Rattle.steps.specs.Parts.{isPart}

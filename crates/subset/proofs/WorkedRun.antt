@@ -6,8 +6,8 @@ use mathlib.Core.Bool.{true, false}
 use mathlib.Core.Option.{Option, none, some}
 use native.Mathlib.Omega.{arith}
 use lib.ListN.{getD}
-use Rattle.steps.specs.declared.network_info.NetworkInfo.{NetworkInfo}
-use Rattle.steps.specs.Network.{Network}
+use Rattle.network.specs.declared.network_info.NetworkInfo.{NetworkInfo}
+use Rattle.network.specs.Network.{Network}
 use Rattle.steps.specs.Taken.{firstTaken, ofValue, ofDecision, isAsked, onesFrom}
 use Rattle.subset.specs.Words.{newEpoch, decidedAt}
 use Rattle.subset.specs.Opened.{opened}

@@ -8,10 +8,10 @@ use mathlib.Core.Bool.{Bool, true, _&&_, _||_, not}
 use mathlib.Core.Option.{Option, none, some}
 use lib.ListN.{getD}
 use lib.Dec.{eqb, leb}
-use Rattle.steps.specs.declared.network_info.NetworkInfo.{NetworkInfo}
+use Rattle.network.specs.declared.network_info.NetworkInfo.{NetworkInfo}
 use Rattle.steps.specs.declared.reader.Content.the-variants.{Broadcast, Agreement}
 use Rattle.steps.specs.Numbers.{agreementMessage, proposeTrue, proposeFalse, inputSubset, handleSubsetMessage}
-use Rattle.steps.specs.Network.{Network, isValidator, numCorrect}
+use Rattle.network.specs.Network.{Network, isValidator, numCorrect}
 use Rattle.steps.specs.Answers.{Rec, Tape, tapeOf}
 use Rattle.steps.specs.Table.{within, tableOk}
 use Rattle.steps.specs.Taken.{orElse, isThere, isTrue, firstTaken, ofValue, ofDecision, isAsked, onesFrom}

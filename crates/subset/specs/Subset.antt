@@ -5,11 +5,11 @@ use mathlib.Core.Bool.{Bool, true, false, cond, _&&_, _||_}
 use mathlib.Core.Option.{Option, none, some}
 use lib.ListN.{set}
 use lib.Dec.{eqb, ltb}
-use Rattle.steps.specs.declared.network_info.NetworkInfo.{NetworkInfo}
+use Rattle.network.specs.declared.network_info.NetworkInfo.{NetworkInfo}
 use Rattle.steps.specs.declared.reader.Content.{Content}
 use Rattle.steps.specs.declared.reader.Content.the-variants.{Broadcast, Agreement}
 use Rattle.steps.specs.Numbers.{broadcastProposal, broadcastMessage, agreementMessage, proposeFalse}
-use Rattle.steps.specs.Network.{isValidator, numCorrect}
+use Rattle.network.specs.Network.{isValidator, numCorrect}
 use Rattle.steps.specs.Answers.{Tape}
 use Rattle.steps.specs.Runs.{going, Run, ends, onward, inside}
 use Rattle.proposal.specs.declared.ProposalState.{ProposalState}

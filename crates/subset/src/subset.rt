@@ -1,7 +1,7 @@
 // The subset over the words of one epoch, after subset.rs. `error` is the number that the caller gives a failure.
 ghost use mathlib.Core.Path.{_≡_};
 ghost use Prim.Native.Nat.{_<_};
-ghost use Rattle.steps.specs.Network.{Network};
+ghost use Rattle.network.specs.Network.{Network};
 ghost use Rattle.steps.specs.Answers.{tapeAt};
 ghost use Rattle.steps.specs.Steps.{out};
 ghost use Rattle.steps.specs.Runs.{leaves};
@@ -12,9 +12,9 @@ use crate::words::DECIDED_AT;
 use crate::words::INCOMPLETE_TAGS;
 use crate::words::RECEIVED_TAGS;
 use crate::words::RECORD_FIELDS;
+use network::network_info::NetworkInfo;
 use proposal::proposal_state::Outcome;
 use proposal::proposal_state::Transition;
-use steps::network_info::NetworkInfo;
 use steps::numbers::AGREEMENT_MESSAGE;
 use steps::numbers::BROADCAST_MESSAGE;
 use steps::numbers::BROADCAST_PROPOSAL;

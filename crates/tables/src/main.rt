@@ -10,7 +10,7 @@
 //
 // TABLE is the words of an answer table. Any other line is skipped.
 ghost use Prim.Native.Nat.{_≤_, _<_};
-ghost use Rattle.steps.specs.Network.{Network};
+ghost use Rattle.network.specs.Network.{Network};
 use decryption::Outcome;
 use decryption::ThresholdDecrypt;
 use libc::STDIN_FILENO;
@@ -18,7 +18,7 @@ use lines::line_end;
 use lines::number;
 use lines::numbers;
 use lines::say;
-use steps::network_info::NetworkInfo;
+use network::network_info::NetworkInfo;
 use steps::reader::Answer;
 use steps::reader::Content;
 use steps::reader::Output;

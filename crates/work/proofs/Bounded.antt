@@ -8,7 +8,7 @@ use native.Mathlib.Omega.{arith}
 use native.Mathlib.Nat.{mul-le-mul-right, mul-le-mul-left}
 use lib.ListN.{length}
 use lib.Dec.{eqb, ltb}
-use Rattle.steps.specs.Network.{isValidator}
+use Rattle.network.specs.Network.{isValidator}
 use Rattle.steps.specs.Table.{tableOk}
 use Rattle.steps.specs.Answers.{Tape, tapeOf}
 use Rattle.steps.specs.Steps.{Entry, out, putAll, counting, writing, records as recordsOf, putHeader, written}

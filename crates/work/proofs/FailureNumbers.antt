@@ -4,8 +4,8 @@ use mathlib.Core.Path.{_≡_}
 use mathlib.Core.List.{List}
 use mathlib.Core.Bool.{Bool, true, false}
 use lib.Dec.{eqb, ltb}
-use Rattle.steps.specs.declared.network_info.NetworkInfo.{NetworkInfo}
-use Rattle.steps.specs.Network.{isValidator}
+use Rattle.network.specs.declared.network_info.NetworkInfo.{NetworkInfo}
+use Rattle.network.specs.Network.{isValidator}
 use Rattle.steps.specs.Answers.{Tape}
 use Rattle.steps.specs.Runs.{going, Run, ends}
 use Rattle.decryption.specs.declared.ThresholdDecrypt.{ThresholdDecrypt}

@@ -8,8 +8,8 @@ use types.Run.{OneOf, miss}
 use denote.Enum.Declared.{tagOf}
 use Rattle.steps.specs.declared.reader.Answer.{Answer}
 use Rattle.steps.specs.declared.reader.Answer.the-variants.{Got, Refused as NoAnswer}
-use Rattle.steps.specs.declared.network_info.NetworkInfo.{NetworkInfo}
-use Rattle.steps.specs.Network.{Network}
+use Rattle.network.specs.declared.network_info.NetworkInfo.{NetworkInfo}
+use Rattle.network.specs.Network.{Network}
 use Rattle.steps.specs.Answers.{Tape, asked, ask}
 use Rattle.steps.specs.Steps.{Out, putAll}
 use Rattle.steps.specs.Runs.{Verdict, going, refused, failed, Run, Left, ends, leaves}

@@ -5,7 +5,7 @@ use mathlib.Core.Bool.{Bool, true, false, cond, _||_, not}
 use lib.ListN.{set}
 use lib.Dec.{eqb, leb, ltb}
 use Rattle.steps.specs.Numbers.{instancesBuilt, unexpectedHbMessageEpoch, createSubset}
-use Rattle.steps.specs.Network.{isValidator}
+use Rattle.network.specs.Network.{isValidator}
 use Rattle.steps.specs.Answers.{Tape, ask}
 use Rattle.steps.specs.Steps.{fault}
 use Rattle.steps.specs.Runs.{going, failed, Run, ends, before, onward, heard, inside}

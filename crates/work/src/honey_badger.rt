@@ -9,7 +9,7 @@ ghost use lib.ListN.{length};
 ghost use Rattle.steps.specs.Answers.{tapeAt};
 ghost use Rattle.steps.specs.Steps.{out};
 ghost use Rattle.steps.specs.Runs.{leaves};
-ghost use Rattle.steps.specs.Network.{Network};
+ghost use Rattle.network.specs.Network.{Network};
 ghost use Rattle.subset.specs.Words.{epochLength};
 ghost use Rattle.epochwords.specs.Shape.{EpochWords, Listed};
 ghost use Rattle.state.specs.State.{nodes, ahead, currentEpoch, epochWords, netOf, stateOk};

@@ -3,7 +3,7 @@ use mathlib.Core.Path.{sym, ap, _∙_}
 use native.Mathlib.Omega.{arith}
 use borrow.Author.Needs.{needs}
 use borrow.Author.Tests.{not-true, not-false}
-use Rattle.steps.specs.Network.{isValidator}
+use Rattle.network.specs.Network.{isValidator}
 use Rattle.steps.specs.Answers.{tapeOf}
 use Rattle.state.proofs.WordsCode.{header-inside}
 use Rattle.state.proofs.RangeCode.{ok-words}
@@ -16,7 +16,7 @@ use Rattle.calls.proofs.operations.propose.Lts as lts
 use Rattle.calls.proofs.call.rest.Reads as rest-reads
 use Rattle.calls.proofs.call.settle.Reads as settle-reads
 use Rattle.state.proofs.words.net_of.Reads as net-of-reads
-use Rattle.steps.proofs.network_info.NetworkInfo.is_validator.Reads as is-validator-reads
+use Rattle.network.proofs.network_info.NetworkInfo.is_validator.Reads as is-validator-reads
 
 -- src/operations.rt:24:17
 slice-read-epoch : tie.Need-slice-read-epoch

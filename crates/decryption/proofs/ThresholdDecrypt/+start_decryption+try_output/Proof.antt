@@ -20,7 +20,7 @@ use Rattle.decryption.proofs.ThresholdDecrypt.handled.Reads as handled-
 use Rattle.decryption.proofs.ThresholdDecrypt.remove_invalid_shares.Reads as remove-invalid-shares-reads
 use Rattle.decryption.proofs.combine.Reads as combine-reads
 use Rattle.decryption.proofs.count.Reads as count-reads
-use Rattle.steps.proofs.network_info.NetworkInfo.is_validator.Reads as is-validator-reads
+use Rattle.network.proofs.network_info.NetworkInfo.is_validator.Reads as is-validator-reads
 use Rattle.steps.proofs.reader.ask.Reads as ask-reads
 use Rattle.steps.proofs.step.Step.message.Reads as message-reads
 use Rattle.decryption.proofs.ThresholdDecrypt.+start_decryption+try_output.{statement}

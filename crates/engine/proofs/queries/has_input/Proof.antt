@@ -6,7 +6,7 @@ use Rattle.engine.proofs.queries.has_input.Tie as tie
 use Rattle.engine.proofs.queries.has_input.Reads as reads
 use Rattle.engine.proofs.queries.has_input.Lts as lts
 use Rattle.state.proofs.words.net_of.Reads as net-of-reads
-use Rattle.steps.proofs.network_info.NetworkInfo.is_validator.Reads as is-validator-reads
+use Rattle.network.proofs.network_info.NetworkInfo.is_validator.Reads as is-validator-reads
 
 -- src/queries.rt:20:9
 net-of-requires : tie.Need-net-of-requires

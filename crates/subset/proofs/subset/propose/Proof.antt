@@ -9,7 +9,7 @@ use Rattle.subset.proofs.subset.propose.Statement.{statement}
 use Rattle.subset.proofs.subset.propose.Tie as tie
 use Rattle.subset.proofs.subset.propose.Reads as reads
 use Rattle.subset.proofs.subset.propose.Lts as lts
-use Rattle.steps.proofs.network_info.NetworkInfo.is_validator.Reads as is-validator-reads
+use Rattle.network.proofs.network_info.NetworkInfo.is_validator.Reads as is-validator-reads
 use Rattle.subset.proofs.subset.broadcast_at.Reads as broadcast-at-reads
 use Rattle.subset.proofs.subset.then_output.Reads as then-output-reads
 

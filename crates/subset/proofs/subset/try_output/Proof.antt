@@ -11,7 +11,7 @@ use Rattle.subset.proofs.subset.try_output.Statement.{statement}
 use Rattle.subset.proofs.subset.try_output.Tie as tie
 use Rattle.subset.proofs.subset.try_output.Reads as reads
 use Rattle.subset.proofs.subset.try_output.Lts as lts
-use Rattle.steps.proofs.network_info.NetworkInfo.num_correct.Reads as num-correct-reads
+use Rattle.network.proofs.network_info.NetworkInfo.num_correct.Reads as num-correct-reads
 use Rattle.subset.proofs.subset.all_complete.Reads as all-complete-reads
 use Rattle.subset.proofs.subset.count_accepted.Reads as count-accepted-reads
 use Rattle.subset.proofs.subset.votes.Reads as votes-reads

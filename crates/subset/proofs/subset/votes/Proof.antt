@@ -8,7 +8,7 @@ use Rattle.subset.proofs.subset.votes.Statement.{statement}
 use Rattle.subset.proofs.subset.votes.Tie as tie
 use Rattle.subset.proofs.subset.votes.Reads as reads
 use Rattle.subset.proofs.subset.votes.Lts as lts
-use Rattle.steps.proofs.network_info.NetworkInfo.num_correct.Reads as num-correct-reads
+use Rattle.network.proofs.network_info.NetworkInfo.num_correct.Reads as num-correct-reads
 use Rattle.subset.proofs.subset.count_accepted.Reads as count-accepted-reads
 use Rattle.subset.proofs.subset.vote_all.Reads as vote-all-reads
 

@@ -1,6 +1,6 @@
 // The network, after network_info.rs: indexes and f. The keys stay outside; of the own one it is known whether it is there.
 ghost use mathlib.Core.Path.{_≡_};
-ghost use Rattle.steps.specs.Network.{isValidator, isNodeValidator, numCorrect, Network};
+ghost use Rattle.network.specs.Network.{isValidator, isNodeValidator, numCorrect, Network};
 
 pub struct NetworkInfo {
     pub num_nodes: usize,

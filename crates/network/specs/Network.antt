@@ -2,8 +2,8 @@
 use Prim.Native.Nat.{ℕ, _*_, _-_, _≤_, _<_}
 use mathlib.Core.Bool.{Bool}
 use lib.Dec.{ltb}
 use Rattle.steps.specs.Numbers.{nodeLimit}
-use Rattle.steps.specs.declared.network_info.NetworkInfo.{NetworkInfo}
+use Rattle.network.specs.declared.network_info.NetworkInfo.{NetworkInfo}
 
 -- the shape that create has tested: 1 to 16 nodes, 3 × f below N, an own index of at most N
 pub record Network (net : NetworkInfo) : Type 0 where

@@ -1,0 +1,2 @@
+// What a call knows of the network.
+pub mod network_info;
