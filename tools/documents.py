@@ -4,7 +4,7 @@
 usage: tools/documents.py          (from anywhere; Python 3.9 or newer, no packages)
 
     `steps/Table: tableOk, handle`        definitions or theorems of a file of specs/ or proofs/ of a crate; also `steps/proofs/RunLaws: …`
-    `Settled: propose-settled`            the same where the crate is plain from the text: a file of that name in any crate
+    `Settled: propose-settled`, `Settled.antt`   the same where the crate is plain from the text: a file of that name in any crate
     `engine: create_f_third`              must-fail edits of a crate
     `answers::table_ok, is_handle` functions, types or constants of the code
     `crates/…`, `docs/…`, `oracle/…`      files and folders
@@ -69,7 +69,14 @@ def faults(mark):
             return [f"no file {stem}.antt in crate {crate}"]
         return [f"{name} is not in {crate}/{stem}" for name in in_files(files, [n.split(" : ")[0].lstrip("…") for n in split(names or "")])
                 if name and not any(known.endswith(name) for file in files for known in ANTT[file])]
+    several = re.fullmatch(r"(.*)\{(.*)\}", mark)
+    if several and place is None and several[1].endswith(("specs/", "proofs/")):
+        return [fault for name in split(several[2]) for fault in faults(several[1] + name)]
+    if re.fullmatch(r"[A-Z]\w*\.antt", mark) and mark != "Proof.antt" and mark[:-5] not in FILES:
+        return [f"no file {mark}"]
     listed = re.fullmatch(rf"({NAME}): (.+)", mark)
+    if listed and re.match("[A-Z]", mark) and listed[1] not in FILES:
+        return [f"no file {listed[1]}.antt"]
     if listed and listed[1] in EDITS:
         return [f"crate {listed[1]} has no must-fail edit {name}" for name in split(listed[2]) if name not in EDITS[listed[1]]]
     if listed and listed[1] in FILES:
