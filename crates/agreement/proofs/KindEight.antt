@@ -22,7 +22,7 @@ use Rattle.steps.proofs.ChainLaws.{and-true}
 use Rattle.steps.proofs.TakenFromChain.{orElse-none, Good, table-good}
 use Rattle.steps.proofs.ReadByKinds.{Past, Others, past-same, past-then, past-ask, past-about, past-first}
 use Rattle.steps.proofs.TimesAsked.{past-times}
-use Rattle.steps.proofs.GivenWithLog.{GivesAs, Gives, gives-map, gives-cond, gives-onward, gives-inside, gives-out}
+use Rattle.steps.proofs.GivenWithLog.{Gives, gives-own, gives-with, gives-map, gives-any, gives-cond, gives-onward, gives-inside, gives-out}
 use Rattle.steps.proofs.AfterRun.{Afterwards}
 use Rattle.epochwords.specs.declared.SubsetHandlingStrategy.{SubsetHandlingStrategy}
 use Rattle.epoch.specs.declared.MessageContent.{MessageContent}
@@ -40,7 +40,7 @@ use Rattle.agreement.specs.History.{Call, turnOf, stateAfter, turns, non
 use Rattle.agreement.specs.Outputs.{timesAskedIn}
 use Rattle.agreement.proofs.BatchesDealt.{Tk}
 use Rattle.agreement.proofs.Invariant.{Sim, net-same, strategy-same, encrypted-same, sim-set}
-use Rattle.agreement.proofs.OneCall.{gives-after, mut-ok}
+use Rattle.agreement.proofs.OneCall.{mut-ok}
 use Rattle.agreement.proofs.ReplyZero.{propose-passes, message-passes, other-leaves}
 use Rattle.agreement.proofs.OneRun.{newV, newD, upto, upto-taken, named-below, proposed, handled, skipped}
 
@@ -68,22 +68,6 @@ module _ (is : ℕ → Bool) where
   past-cond : {S A : Type 0} (ws : List Rec) (x : Bool) (r s : Run S A) → Past is ws (r .tape .rest) → Past is ws (s .tape .rest) → Past is ws (cond x r s .tape .rest)
   past-cond ws true r s h k = h
   past-cond ws false r s h k = k
-
-gives-with : {S A : Type 0} (r : Run S A) (Q : A → S → Tape → List Entry → Type 0) (T : Tape → Type 0) → T (r .tape) → Gives r Q → Gives r (λ a s z l. Q a s z l × T z)
-gives-with {A = A} r Q T t h = go (r .verdict) h
-  where
-    go : (v : Verdict A) → GivesAs v (r .state) (r .tape) (r .log) Q → GivesAs v (r .state) (r .tape) (r .log) (λ a s z l. Q a s z l × T z)
-    go (going a) h = (h, t)
-    go refused h = tt
-    go (failed n) h = tt
-
-gives-all : {S A : Type 0} (r : Run S A) (T : Tape → Type 0) → T (r .tape) → Gives r (λ a s z l. T z)
-gives-all {A = A} r T t = go (r .verdict)
-  where
-    go : (v : Verdict A) → GivesAs v (r .state) (r .tape) (r .log) (λ a s z l. T z)
-    go (going a) = t
-    go refused = tt
-    go (failed n) = tt
 
 -- batches read 13s only, and an epoch is built by a 1
 abbrev thirteen : ℕ → Bool
@@ -181,10 +165,11 @@ module _ (w₀ : List ℕ) (network : Network (netOf w₀)) where
       → Gives (onward (inside (withEpoch w e) r) (λ _ w q. outputBatches w q)) (λ _ v q l. CountedIn vs ds e ws (q .rest))
   spoken w vs ds e ws r a =
       gives-onward (inside (withEpoch w e) r) _ _
-      (gives-inside (withEpoch w e) r _ (gives-after r _ _ a (λ _ x q is c.
-      gives-map (outputBatches (withEpoch w e x) q) _ _
-      (gives-all (outputBatches (withEpoch w e x) q) (λ z. Past thirteen (q .rest) (z .rest)) (batches-past (ahead (withEpoch w e x) + 1) (withEpoch w e x) q)) (λ _ v z m p.
-      counted-then net strategy (encrypted e) (vs e) (ds e) thirteen (λ k i. rw (eqb-true k 13 i)) (λ k i. rw (eqb-true k 13 i)) (λ k i. rw (eqb-true k 13 i)) ws (q .rest) (z .rest) c p))))
+      (gives-inside (withEpoch w e) r _ (gives-own r _ _ a (λ _ c.
+      let u : List ℕ = withEpoch w e (r .state) in
+      gives-own (outputBatches u (r .tape)) (λ _ v z m. Unit {0}) _ (gives-any (outputBatches u (r .tape)) _ (λ _ v z m. tt)) (λ _ _.
+      counted-then net strategy (encrypted e) (vs e) (ds e) thirteen (λ k i. rw (eqb-true k 13 i)) (λ k i. rw (eqb-true k 13 i)) (λ k i. rw (eqb-true k 13 i)) ws (r .tape .rest) _ c
+      (batches-past (ahead u + 1) u (r .tape))))))
 
   built : (w : List ℕ) (vs ds : Tk) (e : ℕ) (ws r : List Rec) (run : Run (List ℕ) (Unit {0})) → Past one ws r → Gives run (λ _ v q l. CountedIn vs ds e r (q .rest))
       → Gives run (λ _ v q l. CountedIn vs ds e ws (q .rest))
@@ -200,7 +185,7 @@ module _ (w₀ : List ℕ) (network : Network (netOf w₀)) where
       gives-cond (isValidator (netOf w)) _ _ _
       (λ _. rw (h .current) (gives-onward (epochStateMut cur (set w inputAt 1) p) _ _
       (gives-map (epochStateMut cur (set w inputAt 1) p) _ _
-      (gives-with (epochStateMut cur (set w inputAt 1) p) _ (λ z. Past one (p .rest) (z .rest)) (mut-past cur (set w inputAt 1) p)
+      (gives-with (epochStateMut cur (set w inputAt 1) p) _ (λ v z. Past one (p .rest) (z .rest)) (mut-past cur (set w inputAt 1) p)
       (mut-ok Holds epoch-laws w₀ network (set w inputAt 1) cur vs ds ts cur p (omega arith) (omega arith) (sim-set Holds w₀ w cur vs ds ts h inputAt 1 (omega arith) (omega arith)) g)) (λ _ v q l b.
       rw (b .0 .sim .current, net-same Holds w₀ v cur vs ds ts (b .0 .sim), strategy-same Holds w₀ v cur vs ds ts (b .0 .sim), encrypted-same Holds w₀ v cur vs ds ts (b .0 .sim) cur)
       (built v vs ds cur (p .rest) (q .rest) (onward (inside (withEpoch v cur) (proposeInEpoch net strategy (encrypted cur) (epochWords v cur) q)) (λ _ w q. outputBatches w q)) (b .1)
@@ -220,7 +205,7 @@ module _ (w₀ : List ℕ) (network : Network (netOf w₀)) where
       let up : e ≤ cur + ahead w₀ = omega (arith, h .current, h .shaped .ahead, ltb-false (currentEpoch w + ahead w) e far) in
       gives-onward (epochStateMut e w p) _ _
       (gives-map (epochStateMut e w p) _ _
-      (gives-with (epochStateMut e w p) _ (λ z. Past one (p .rest) (z .rest)) (mut-past e w p) (mut-ok Holds epoch-laws w₀ network w cur vs ds ts e p low up h g)) (λ _ v q l b.
+      (gives-with (epochStateMut e w p) _ (λ v z. Past one (p .rest) (z .rest)) (mut-past e w p) (mut-ok Holds epoch-laws w₀ network w cur vs ds ts e p low up h g)) (λ _ v q l b.
       rw (net-same Holds w₀ v cur vs ds ts (b .0 .sim), strategy-same Holds w₀ v cur vs ds ts (b .0 .sim), encrypted-same Holds w₀ v cur vs ds ts (b .0 .sim) e)
       (built v vs ds e (p .rest) (q .rest) (onward (inside (withEpoch v e) (handleMessageContent net strategy (encrypted e) sender proposer content (epochWords v e) q)) (λ _ w q. outputBatches w q)) (b .1)
       (spoken v vs ds e (q .rest) (handleMessageContent net strategy (encrypted e) sender proposer content (epochWords v e) q)

@@ -18,9 +18,9 @@ use Rattle.steps.specs.Runs.{Verdict, going, refused, failed, Run, ends, onward
 use Rattle.steps.specs.Taken.{orElse, isThere, isTrue, firstTaken, ofValue, ofDecision, firstDecrypted, thirteensIn}
 use Rattle.steps.proofs.ChainLaws.{and-true}
 use Rattle.steps.proofs.TakenFromChain.{Good}
-use Rattle.steps.proofs.GivenWithLog.{GivesAs, Gives, gives-map, gives-cond, gives-ask, gives-onward, gives-inside, Neither, neither, neither-then, neither-1, thirteens-1, good-tail, outputs-append, faults-append}
+use Rattle.steps.proofs.GivenWithLog.{Gives, gives-own, gives-map, gives-cond, gives-ask, gives-onward, gives-inside, Neither, neither, neither-then, neither-1, thirteens-1, good-tail, outputs-append, faults-append}
 use Rattle.subset.specs.Words.{recordLength, epochLength, statusAt}
-use Rattle.steps.proofs.AfterRun.{AfterwardsAs, Afterwards}
+use Rattle.steps.proofs.AfterRun.{Afterwards}
 use Rattle.subset.proofs.VotesAsked.{and-no, and-yes, untold-same, untold-neither, Voted, voted-still, voted-after, voted-before}
 use Rattle.epochwords.specs.declared.SubsetHandlingStrategy.{SubsetHandlingStrategy}
 use Rattle.epoch.specs.declared.MessageContent.{MessageContent}
@@ -38,16 +38,6 @@ use Rattle.agreement.proofs.OneBatch.{entriesOf, itemsOf, textIn, fives
 use Rattle.agreement.proofs.StepAsRead.{entriesAmong, batchesAmong, batch-first}
 use Rattle.agreement.proofs.BatchesDealt.{Tk, Hand, Dealt, no-batch, one-batch, names-same}
 use Rattle.agreement.proofs.Invariant.{Slot, vacant, lives, Sim, net-same, strategy-same, encrypted-same, sim-set, sim-with, sim-update}
-
--- what a run gives, from what holds after it
-pub gives-after : {S A : Type 0} (r : Run S A) (P : A → S → Tape → Type 0) (Q : A → S → Tape → List Entry → Type 0) → Afterwards r P
-    → ((a : A) (s : S) (p : Tape) → s ≡ r .state → P a s p → Q a s p (r .log)) → Gives r Q
-gives-after {S} {A} r P Q h k = go (r .verdict) h
-  where
-    go : (v : Verdict A) → AfterwardsAs v (r .state) (r .tape) P → GivesAs v (r .state) (r .tape) (r .log) Q
-    go (going a) h = k a (r .state) (r .tape) refl h
-    go refused h = tt
-    go (failed n) h = tt
 
 -- an epoch that is not there is not ready
 vacant-waits : (n : ℕ) (x : List ℕ) → isVacant x ≡ true → isReady n x ≡ true → ⊥
@@ -305,11 +295,11 @@ module _ (Holds : NetworkInfo → SubsetHandlingStrategy → Bool → List ℕ �
   unfolding netOf
   spoken w cur vs ds ts e who comes ws r l u h a there quiet =
       gives-onward (inside (withEpoch w e) r) _ _
-      (gives-inside (withEpoch w e) r _ (gives-after r _ _ a (λ _ x q is t.
-      let s : SimOf (withEpoch w e x) cur (upd vs e (t .v′)) (upd ds e (t .d′)) (upd ts e (t .t′)) =
-      sim-with Holds w₀ w cur vs ds ts h e l u x (t .size) (rw is there) (upd vs e (t .v′)) (upd ds e (t .d′)) (upd ts e (t .t′)) (rw (eq-eqb e e refl) (t .holds)) (λ i z. (rw z, rw z, rw z)) in
-      gives-map (outputBatches (withEpoch w e x) q) _ _ (batches-ok (ahead (withEpoch w e x) + 1) (withEpoch w e x) cur (upd vs e (t .v′)) (upd ds e (t .d′)) (upd ts e (t .t′)) q s)
-      (λ _ v z m b. moved-by cur vs ds ts e who comes ws x (q .rest) (r .log) v (z .rest) m t quiet b))))
+      (gives-inside (withEpoch w e) r _ (gives-own r _ _ a (λ _ t.
+      let s : SimOf (withEpoch w e (r .state)) cur (upd vs e (t .v′)) (upd ds e (t .d′)) (upd ts e (t .t′)) =
+      sim-with Holds w₀ w cur vs ds ts h e l u (r .state) (t .size) there (upd vs e (t .v′)) (upd ds e (t .d′)) (upd ts e (t .t′)) (rw (eq-eqb e e refl) (t .holds)) (λ i z. (rw z, rw z, rw z)) in
+      gives-map (outputBatches (withEpoch w e (r .state)) (r .tape)) _ _ (batches-ok (ahead (withEpoch w e (r .state)) + 1) (withEpoch w e (r .state)) cur (upd vs e (t .v′)) (upd ds e (t .d′)) (upd ts e (t .t′)) (r .tape) s)
+      (λ _ v z m b. moved-by cur vs ds ts e who comes ws (r .state) (r .tape .rest) (r .log) v (z .rest) m t quiet b))))
 
   -- PROPOSE
   proposed-in : (w : List ℕ) (cur : ℕ) (vs ds ts : Tk) (p : Tape) → SimOf w cur vs ds ts → Good (nodes w₀) (p .rest)

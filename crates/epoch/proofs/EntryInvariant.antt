@@ -16,7 +16,8 @@ use Rattle.steps.proofs.ReadByKinds.{Past, past-same, past-then}
 use Rattle.decryption.specs.declared.ThresholdDecrypt.{ThresholdDecrypt}
 use Rattle.decryption.specs.Decrypt.{new, handleMessage as handleShare}
 use Rattle.subset.specs.Words.{epochLength, recordAt}
-use Rattle.steps.proofs.AfterRun.{AfterwardsAs, Afterwards, after-map}
+use Rattle.steps.proofs.AfterRun.{Afterwards, after-map}
+use Rattle.steps.proofs.GivenWithLog.{GivesAs}
 use Rattle.subset.proofs.TakenTests.{more, link-more}
 use Rattle.epochwords.specs.Words.{isAccepted, DecryptionState, missing, ongoing, complete, entryNone, entryOngoing, asks, loadEntry, decryptionAt, plaintextAt, ciphertextAt, loadInstance, loadDecryption, storeDecryption}
 use Rattle.epoch.specs.Epoch.{entryAfter, processDecryption, callEntry, inputCiphertext}
@@ -142,7 +143,7 @@ module _ (net : NetworkInfo) (p : ℕ) (w : List ℕ) where
       stop : Option ℕ → List ℕ → Tape → Run (List ℕ) (Unit {0})
       stop _ w q = ends (going tt) w q
 
-      go : (v : Verdict (Option ℕ)) → AfterwardsAs v (r .state) (r .tape) (λ o td z. P (storeDecryption (net .«num_nodes») w p (entryAfter (going o) td)) z)
+      go : (v : Verdict (Option ℕ)) → GivesAs v (r .state) (r .tape) (r .log) (λ o td z l. P (storeDecryption (net .«num_nodes») w p (entryAfter (going o) td)) z)
           → Afterwards (onwardAs v (record { state = storeDecryption (net .«num_nodes») w p (entryAfter v (r .state)); verdict = v; tape = r .tape; log = r .log }) stop) (λ _ w′ z. P w′ z)
       go (going o) h = h
       go refused h = tt

@@ -3,7 +3,7 @@ use Prim.Native.Nat.{ℕ, _<_}
 use mathlib.Core.Path.{_≡_, refl, sym, ap, _∙_}
 use mathlib.Core.Logic.{_⊎_, inl, inr}
 use native.Mathlib.Omega.{arith}
-use mathlib.Core.List.{List}
+use mathlib.Core.List.{List, [], _∷_}
 use mathlib.Core.Bool.{Bool, true, false, cond}
 use mathlib.Core.Option.{Option, none, some}
 use lib.Dec.{leb, eqb}
@@ -19,7 +19,7 @@ use Rattle.steps.specs.Table.{within}
 use Rattle.steps.proofs.Logic.{Terms, Logic}
 use Rattle.decryption.proofs.Walk.{Does, handle-keeps as share-keeps}
 use Rattle.decryption.proofs.Errors.{handle-keeps, early-none}
-use Rattle.steps.proofs.AfterRun.{Afterwards, after-map, after-with, after-both, after-any, after-onward, Reads, after-ask, after-about}
+use Rattle.steps.proofs.AfterRun.{Afterwards, after-map, after-before, after-with, after-both, after-any, after-onward, Reads, after-ask, after-about}
 use Rattle.epoch.specs.Epoch.{inputCiphertext}
 use Rattle.epoch.proofs.Walk.{Inputs, input-keeps}
 use Rattle.epoch.proofs.QuietLayers.{decryptionKinds, entry-past, share-runs, input-runs}
@@ -86,7 +86,7 @@ telling S = record {
   steps = λ A f x y n s t p r e g. rw e g;
   goes = λ A f h a s p e l q who. rw e;
   fails = λ A f h n s p e. tt;
-  writes = λ A f x n e s p r w g. g;
+  writes = λ A f x n e s p r w g. after-before (e ∷ []) r _ g;
   asks = λ A f x n kind s p k e g. after-ask p kind s k _ (λ a b u r. after-map (k a b u) _ _ (g a b u tt) (λ v t z h. tells-after x (f v .handle) p kind b u (z .rest) e r h));
   asksAbout = λ A f x n kind who s p k e g. after-about p kind s k _ who (λ a b u r. after-map (k a b u) _ _ (g a b u) (λ v t z h. tells-after x (f v .handle) p kind who u (z .rest) e r h));
   asksText = λ A f n s p k e g. after-ask p 12 s k _ (λ a b u r. after-map (k a b u) _ _ (g a b u tt) (λ v t z h. tells-text (f v .handle) p b u (z .rest) r h));

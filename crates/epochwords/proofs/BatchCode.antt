@@ -19,7 +19,7 @@ use Rattle.steps.specs.Runs.{Verdict, going, refused, failed, ends, before, onw
 use Rattle.steps.specs.Bits.{hasBit, withBit, countBits}
 use Rattle.steps.proofs.RunLaws.{heard-got, heard-none, leaves-before}
 use Rattle.subset.specs.Words.{recordLength, fieldAt}
-use Rattle.steps.proofs.AfterRun.{AfterwardsAs}
+use Rattle.steps.proofs.AfterRun.{after-out}
 use Rattle.epochwords.specs.Words.{isAccepted, isSettled, decryptionIn, plaintextIn, plaintextField}
 use Rattle.epochwords.specs.Shape.{EpochWords}
 use Rattle.epochwords.specs.Batch.{decryptedFrom, isRead, readAt, readFrom, entriesFrom}
@@ -133,13 +133,7 @@ module _ (size n p readable : ℕ) (w : List ℕ) (o : Out) where
 
 -- THE BATCH: the language's count of ones counts the readable ones,
 pub readable-ones : (size n readable : ℕ) (w : List ℕ) (t : Tape) → readFrom size n 0 0 w t .verdict ≡ going readable → ones readable ≡ countBits n 0 readable
-readable-ones size n readable w t e = go (readFrom size n 0 0 w t .verdict) (entries-ones size n w t) e
-  where
-    go : (v : Verdict ℕ) → AfterwardsAs v (readFrom size n 0 0 w t .state) (readFrom size n 0 0 w t .tape) (λ readable w z. countBits n 0 readable ≡ ones readable)
-        → v ≡ going readable → ones readable ≡ countBits n 0 readable
-    go (going a) h e = let z : a ≡ readable = cc in rw z at (sym h)
-    go refused h e = let z : _≡_ {A = ℕ} 0 1 = cc in absurd (omega arith)
-    go (failed c) h e = let z : _≡_ {A = ℕ} 0 1 = cc in absurd (omega arith)
+readable-ones size n readable w t e = sym (after-out (readFrom size n 0 0 w t) _ readable (entries-ones size n w t) e)
 
 -- its record is put first, and then its entries
 pub batch-out : (size n number readable : ℕ) (w : List ℕ) (q : Tape) (o u v : Out) → ones readable ≡ countBits n 0 readable → u ≡ putEntry o (output batchOutput number (ones readable))

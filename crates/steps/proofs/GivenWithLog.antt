@@ -24,14 +24,39 @@ module _ {S A : Type 0} where
   abbrev pub Gives : Run S A → (A → S → Tape → List Entry → Type 0) → Type 0
   Gives r Q = GivesAs (r .verdict) (r .state) (r .tape) (r .log) Q
 
-  pub gives-map : (r : Run S A) (P Q : A → S → Tape → List Entry → Type 0) → Gives r P
-      → ((a : A) (s : S) (p : Tape) (l : List Entry) → P a s p l → Q a s p l) → Gives r Q
-  gives-map r P Q h k = go (r .verdict) h
+  -- as gives-map, of the run's own state, tape and log
+  pub gives-own : (r : Run S A) (P Q : A → S → Tape → List Entry → Type 0) → Gives r P
+      → ((a : A) → P a (r .state) (r .tape) (r .log) → Q a (r .state) (r .tape) (r .log)) → Gives r Q
+  gives-own r P Q h k = go (r .verdict) h
     where
       go : (v : Verdict A) → GivesAs v (r .state) (r .tape) (r .log) P → GivesAs v (r .state) (r .tape) (r .log) Q
-      go (going a) h = k a (r .state) (r .tape) (r .log) h
+      go (going a) h = k a h
       go refused h = tt
       go (failed n) h = tt
+
+  pub gives-map : (r : Run S A) (P Q : A → S → Tape → List Entry → Type 0) → Gives r P
+      → ((a : A) (s : S) (p : Tape) (l : List Entry) → P a s p l → Q a s p l) → Gives r Q
+  gives-map r P Q h k = gives-own r P Q h (λ a h. k a (r .state) (r .tape) (r .log) h)
+
+  -- what holds of a run's state and answers, whatever its verdict
+  pub gives-with : (r : Run S A) (Q : A → S → Tape → List Entry → Type 0) (T : S → Tape → Type 0) → T (r .state) (r .tape) → Gives r Q → Gives r (λ a s p l. Q a s p l × T s p)
+  gives-with r Q T t h = gives-own r Q _ h (λ a h. (h, t))
+
+  pub gives-any : (r : Run S A) (Q : A → S → Tape → List Entry → Type 0) → ((a : A) (s : S) (p : Tape) (l : List Entry) → Q a s p l) → Gives r Q
+  gives-any r Q f = go (r .verdict)
+    where
+      go : (v : Verdict A) → GivesAs v (r .state) (r .tape) (r .log) Q
+      go (going a) = f a (r .state) (r .tape) (r .log)
+      go refused = tt
+      go (failed n) = tt
+
+  pub gives-both : (r : Run S A) (P Q : A → S → Tape → List Entry → Type 0) → Gives r P → Gives r Q → Gives r (λ a s p l. P a s p l × Q a s p l)
+  gives-both r P Q f g = go (r .verdict) f g
+    where
+      go : (v : Verdict A) → GivesAs v (r .state) (r .tape) (r .log) P → GivesAs v (r .state) (r .tape) (r .log) Q → GivesAs v (r .state) (r .tape) (r .log) (λ a s p l. P a s p l × Q a s p l)
+      go (going a) f g = (f, g)
+      go refused f g = tt
+      go (failed n) f g = tt
 
   pub gives-cond : (x : Bool) (r s : Run S A) (Q : A → S → Tape → List Entry → Type 0) → (x ≡ true → Gives r Q) → (x ≡ false → Gives s Q) → Gives (cond x r s) Q
   gives-cond true r s Q f g = f refl

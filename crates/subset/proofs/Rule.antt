@@ -15,12 +15,13 @@ use Rattle.network.specs.Network.{Network}
 use Rattle.steps.specs.Answers.{Rec, Tape, tapeOf}
 use Rattle.steps.specs.Table.{tableOk}
 use Rattle.steps.specs.Taken.{orElse, isThere, firstTaken, ofValue, ofDecision}
+use Rattle.steps.specs.Steps.{Entry}
 use Rattle.steps.specs.Runs.{Verdict, going, refused, failed}
 use Rattle.steps.proofs.ChainLaws.{and-true}
 use Rattle.steps.proofs.TakenFromChain.{orElse-none, orElse-assoc, Bit, table-good}
 use Rattle.subset.specs.Words.{newEpoch, epochLength, decidedAt, countAt, proposalAt, valueAt, arrivalAt, proposalOf, loadProposal}
 use Rattle.subset.specs.Rule.{settledFrom, isOver, SubsetEvent, answers, tablesOk, takenBy, runOf, wordsAs, thenWords, wordsAfter, Contribution, contributionsFrom, contributions, speaks, SubsetRule}
-use Rattle.steps.proofs.AfterRun.{AfterwardsAs}
+use Rattle.steps.proofs.GivenWithLog.{GivesAs}
 use Rattle.proposal.proofs.TakenByProposal.{outputOf}
 use Rattle.subset.proofs.Counts.{countIf}
 use Rattle.subset.proofs.Invariant.{Held, isNew}
@@ -59,16 +60,16 @@ next-call net comes v d ws w′ done c =
     }
 
 module _ (net : NetworkInfo) (comes : Bool) (v d : ℕ → Option ℕ) where
-  read-whole : (ws : List Rec) (w′ : List ℕ) (verdict : Verdict Bool) (p : Tape) (s : List ℕ) → AfterwardsAs verdict s p (λ done t z. Called none-old net comes v d ws done t (z .rest))
+  read-whole : (ws : List Rec) (w′ : List ℕ) (verdict : Verdict Bool) (p : Tape) (s : List ℕ) (log : List Entry) → GivesAs verdict s p log (λ done t z l. Called none-old net comes v d ws done t (z .rest))
       → wordsAs net verdict (p .rest) s ≡ some w′ → Next net comes v d ws w′
   unfolding wordsAs
-  read-whole ws w′ (going done) p s c e = go (p .rest) c e
+  read-whole ws w′ (going done) p s log c e = go (p .rest) c e
     where
       go : (l : List Rec) → Called none-old net comes v d ws done s l → wordsAs net (going done) l s ≡ some w′ → Next net comes v d ws w′
       go [] c e = let z : s ≡ w′ = cc in next-call net comes v d ws w′ done (rw z at c)
       go (r ∷ rs) c e = let z : _≡_ {A = ℕ} 0 1 = cc in absurd (omega arith)
-  read-whole ws w′ refused p s c e = let z : _≡_ {A = ℕ} 0 1 = cc in absurd (omega arith)
-  read-whole ws w′ (failed error) p s c e = let z : _≡_ {A = ℕ} 0 1 = cc in absurd (omega arith)
+  read-whole ws w′ refused p s log c e = let z : _≡_ {A = ℕ} 0 1 = cc in absurd (omega arith)
+  read-whole ws w′ (failed error) p s log c e = let z : _≡_ {A = ℕ} 0 1 = cc in absurd (omega arith)
 
 -- the words after one call
 abbrev wordsOf : NetworkInfo → List ℕ → SubsetEvent → Option (List ℕ)
@@ -80,7 +81,7 @@ one-call : (net : NetworkInfo) (w : List ℕ) (v d : ℕ → Option ℕ) (x : Su
     → wordsOf net w x ≡ some w′ → Next net (speaks net (x .call)) v d (answers x) w′
 one-call net w v d x w′ k t e =
     let r = runOf net (x .call) w (tapeOf (x .table)) in
-    read-whole net (speaks net (x .call)) v d (answers x) w′ (r .verdict) (r .tape) (r .state)
+    read-whole net (speaks net (x .call)) v d (answers x) w′ (r .verdict) (r .tape) (r .state) (r .log)
     (call-ok none-old net w v d (k .held) (tapeOf (x .table)) (table-good (net .«num_nodes») (x .table) t) (k .decided) (x .call)) e
 
 -- A RUN
