@@ -92,21 +92,17 @@ created-epoch c e i = go (leb (epochLength (c .nodes)) i) refl
         ∙ (getD-drop p (created c) i 0 ∙ created-zeros c (p + i) (omega (arith, first)))
 
 -- the schedule's numbers, as they are stored
+cond-again : (t : Bool) (a : ℕ) → cond t 0 (cond t 0 a) ≡ cond t 0 a
+cond-again true a = refl
+cond-again false a = refl
+
 first-again : (k a : ℕ) → usedFirst k (usedFirst k a) ≡ usedFirst k a
 unfolding usedFirst
-first-again k a = go (leb k 1)
-  where
-    go : (t : Bool) → cond t 0 (cond t 0 a) ≡ cond t 0 a
-    go true = refl
-    go false = refl
+first-again k a = cond-again (leb k 1) a
 
 second-again : (k b : ℕ) → usedSecond k (usedSecond k b) ≡ usedSecond k b
 unfolding usedSecond
-second-again k b = go (leb k 2)
-  where
-    go : (t : Bool) → cond t 0 (cond t 0 b) ≡ cond t 0 b
-    go true = refl
-    go false = refl
+second-again k b = cond-again (leb k 2) b
 
 schedule-kept : (k a b : ℕ) → scheduleOk k a b ≡ true → scheduleOk k (usedFirst k a) (usedSecond k b) ≡ true
 unfolding scheduleOk usedFirst usedSecond

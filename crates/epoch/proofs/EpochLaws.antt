@@ -135,7 +135,19 @@ module _ (net : NetworkInfo) (strategy : SubsetHandlingStrategy) (encrypted : Bo
         votes = voted-still net v d (untold-past decryptionKinds decryption-subset ws r (a .ran .past));
       }
 
--- A CALL OF THE SUBSET, and what it hands up
+-- A CALL OF THE SUBSET leaves the accepted bits and the entries' texts
+pub accepted-framed : (n : ℕ) (w w₁ : List ℕ) → Frame n w w₁ → (q : ℕ) → isAccepted w₁ q ≡ isAccepted w q
+accepted-framed n w w₁ f q = accepted-kept w w₁ (f acceptedAt (outside-accepted n)) q
+
+pub texts-framed : (net : NetworkInfo) (encrypted : Bool) (w w₁ : List ℕ) (v v′ t : ℕ → Option ℕ) → TextsOk encrypted (net .«num_nodes») w v t → ((q x : ℕ) → v q ≡ some x → v′ q ≡ some x)
+    → Frame (net .«num_nodes») w w₁ → TextsOk encrypted (net .«num_nodes») w₁ v′ t
+texts-framed net encrypted w w₁ v v′ t h grown f q l =
+    let n = net .«num_nodes» in
+    rw (accepted-framed n w w₁ f q)
+    (text-value encrypted (loadDecryption n w₁ q) (isAccepted w q) (v q) (v′ q) (t q) (grown q)
+    (text-words encrypted n w w₁ q (isAccepted w q) (v q) (t q) (λ j a b. f (recordAt n q j) (outside-record n q j a (omega arith))) (h q l)))
+
+-- and what it hands up
 module _ (net : NetworkInfo) (strategy : SubsetHandlingStrategy) (encrypted : Bool) (w : List ℕ) (v d t : ℕ → Option ℕ) (who : Option ℕ) (comes : Bool)
     (h : Holds net strategy encrypted w v d t) (s : Going net strategy w v d) where
   abbrev N : ℕ
@@ -148,7 +160,7 @@ module _ (net : NetworkInfo) (strategy : SubsetHandlingStrategy) (encrypted : Bo
       → Afterwards (processSubset net strategy encrypted done w₁ u) (λ _ w′ z. CallTold Holds net strategy encrypted v d t who comes ws w′ (z .rest))
   called-then ws done w₁ u g c past f =
       after-map (processSubset net strategy encrypted done w₁ u) _ _
-      (process-ok net strategy encrypted v d (c .v′) (c .d′) t w₁ who u done (c .held) texts₁ (λ q l. bit q ∙ s .accepted q l) (f statusAt (outside-status N) ∙ s .status) (c .decided) (c .says (s .over)))
+      (process-ok net strategy encrypted v d (c .v′) (c .d′) t w₁ who u done (c .held) (texts-framed net encrypted w w₁ v (c .v′) t (h .texts) (c .linked .grownV) f) (λ q l. accepted-framed (net .«num_nodes») w w₁ f q ∙ s .accepted q l) (f statusAt (outside-status N) ∙ s .status) (c .decided) (c .says (s .over)))
       (λ _ w′ z p. record {
         v′ = c .v′;
         d′ = c .d′;
@@ -163,15 +175,6 @@ module _ (net : NetworkInfo) (strategy : SubsetHandlingStrategy) (encrypted : Bo
         thirteens = past-thirteens subsetKinds subset-thirteen past ∙ past-thirteens decryptionKinds decryption-thirteen (p .opening .past);
         votes = voted-after net v d comes (c .votes) (untold-past decryptionKinds decryption-subset (u .rest) (z .rest) (p .opening .past));
       })
-    where
-      bit : (q : ℕ) → isAccepted w₁ q ≡ isAccepted w q
-      bit q = accepted-kept w w₁ (f acceptedAt (outside-accepted N)) q
-
-      texts₁ : TextsOk encrypted N w₁ (c .v′) t
-      texts₁ q l =
-          rw (bit q)
-          (text-value encrypted (loadDecryption N w₁ q) (isAccepted w q) (v q) (c .v′ q) (t q) (c .linked .grownV q)
-          (text-words encrypted N w w₁ q (isAccepted w q) (v q) (t q) (λ j a b. f (recordAt N q j) (outside-record N q j a (omega arith))) (h .texts q l)))
 
   -- a call that goes on hands up what it has
   handed-ok : (k : ℕ) (r : Run (List ℕ) Bool) (Q : Bool → List ℕ → Tape → Type 0) → Afterwards r Q → Afterwards (handedUp net strategy encrypted k (r .verdict) r) Q

@@ -42,7 +42,7 @@ use Rattle.epoch.proofs.EntryInvariant.{text-words, text-value, TextsOk
 use Rattle.epoch.proofs.ContributionsHandled.{held-same, Contributed, contribution-ok, output-value}
 use Rattle.epoch.proofs.FinishedWords.{cut-word}
 use Rattle.epoch.proofs.Invariant.{handledBy, Going, Done, Holds}
-use Rattle.epoch.proofs.EpochLaws.{SubsetLaws, proposes, handles, handled-ok, proposed-ok, settled-known}
+use Rattle.epoch.proofs.EpochLaws.{accepted-framed, texts-framed, SubsetLaws, proposes, handles, handled-ok, proposed-ok, settled-known}
 
 -- once, where a proposer is accepted in an encrypted epoch
 abbrev pub once : Bool → Bool → ℕ
@@ -244,17 +244,8 @@ module _ (net : NetworkInfo) (strategy : SubsetHandlingStrategy) (encrypted : Bo
       → Afterwards (processSubset net strategy encrypted done w₁ u) (λ _ w′ z. Tallied encrypted nn w ws w′ (z .rest))
   called-tallied comes s ws done w₁ u c past f =
       after-map (processSubset net strategy encrypted done w₁ u) _ _
-      (process-tallied net strategy encrypted (handledBy strategy v d) (c .v′) (c .d′) t done w₁ u (c .held) texts₁ (λ q l. bit q ∙ s .accepted q l))
+      (process-tallied net strategy encrypted (handledBy strategy v d) (c .v′) (c .d′) t done w₁ u (c .held) (texts-framed net encrypted w w₁ v (c .v′) t (h .texts) (c .linked .grownV) f) (λ q l. accepted-framed nn w w₁ f q ∙ s .accepted q l))
       (λ _ w′ z p q l. unasked encrypted nn w ws w₁ (u .rest) (record { accepted = f acceptedAt (outside-accepted nn); times = past-times subsetKinds 8 subset-eight past }) q l ∙ p q l)
-    where
-      bit : (q : ℕ) → isAccepted w₁ q ≡ isAccepted w q
-      bit q = accepted-kept w w₁ (f acceptedAt (outside-accepted nn)) q
-
-      texts₁ : TextsOk encrypted nn w₁ (c .v′) t
-      texts₁ q l =
-          rw (bit q)
-          (text-value encrypted (loadDecryption nn w₁ q) (isAccepted w q) (v q) (c .v′ q) (t q) (c .linked .grownV q)
-          (text-words encrypted nn w w₁ q (isAccepted w q) (v q) (t q) (λ j a b. f (recordAt nn q j) (outside-record nn q j a (omega arith))) (h .texts q l)))
 
   subset-tallied : (comes : Bool) (call : List ℕ → Tape → Run (List ℕ) Bool) → SubsetLaws net comes call → (u : Tape) → Good nn (u .rest)
       → Afterwards (callSubset net strategy encrypted call w u) (λ _ w′ z. Tallied encrypted nn w (u .rest) w′ (z .rest))

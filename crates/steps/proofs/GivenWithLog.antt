@@ -140,25 +140,22 @@ neither-then a b = record {
 }
 
 module _ (r : Rec) (rs : List Rec) where
-  pub neither-1 : r .kind ≡ 1 → Neither (r ∷ rs) rs
+  -- a record of kind k, by what is computed of k
+  pub neither-of : (k : ℕ) → ofValue k ≡ false → ofDecision k ≡ false → within 5 6 k ≡ false → eqb k 8 ≡ false → eqb k 12 ≡ false → within 3 7 k ≡ false → r .kind ≡ k → Neither (r ∷ rs) rs
   unfolding firstTaken firstDecrypted concernedAfter orElse isAsked
-  neither-1 e = record {
-    value = λ q. rw e;
-    decision = λ q. rw e;
-    text = λ q who. rw e;
-    early = λ q. rw e;
-    asks = λ kind k q. rw (e, apart (within 3 7) 1 kind refl k);
+  neither-of k v d l i x s e = record {
+    value = λ q. rw (e, v);
+    decision = λ q. rw (e, d);
+    text = λ q who. rw (e, i, x);
+    early = λ q. rw (e, l);
+    asks = λ kind among q. rw (e, apart (within 3 7) k kind s among);
   }
 
+  pub neither-1 : r .kind ≡ 1 → Neither (r ∷ rs) rs
+  neither-1 e = neither-of 1 refl refl refl refl refl refl e
+
   pub neither-13 : r .kind ≡ 13 → Neither (r ∷ rs) rs
-  unfolding firstTaken firstDecrypted concernedAfter orElse isAsked
-  neither-13 e = record {
-    value = λ q. rw e;
-    decision = λ q. rw e;
-    text = λ q who. rw e;
-    early = λ q. rw e;
-    asks = λ kind k q. rw (e, apart (within 3 7) 13 kind refl k);
-  }
+  neither-13 e = neither-of 13 refl refl refl refl refl refl e
 
   pub thirteens-1 : r .kind ≡ 1 → thirteensIn (r ∷ rs) ≡ thirteensIn rs
   unfolding thirteensIn
