@@ -14,7 +14,7 @@ use Rattle.network.specs.Network.{Network, isValidator}
 use Rattle.steps.specs.Answers.{Rec, Tape, tape}
 use Rattle.steps.specs.Table.{within}
 use Rattle.steps.specs.Steps.{Entry, fault, item, faults, outputs}
-use Rattle.steps.specs.Runs.{Verdict, going, refused, failed, Run, ends, onward, inside}
+use Rattle.steps.specs.Runs.{going, Run, ends, onward, inside}
 use Rattle.steps.specs.Taken.{orElse, isThere, isTrue, firstTaken, ofValue, ofDecision, firstDecrypted, thirteensIn}
 use Rattle.steps.proofs.ChainLaws.{and-true}
 use Rattle.steps.proofs.TakenFromChain.{Good}

@@ -5,12 +5,12 @@ use mathlib.Core.List.{List, [], _∷_, List·Memᴰ, List·Memᴰ·cases-cons, 
 use mathlib.Core.Bool.{true}
 use mathlib.Core.Logic.{⊎-elim}
 use Rattle.state.specs.State.{stateOk}
-use Rattle.engine.specs.Create.{createReply, createState}
+use Rattle.engine.specs.Create.{createState}
 use Rattle.calls.specs.Calls.{After}
 use Rattle.agreement.specs.History.{Call, propose, message, skip, Turn, turnOf, stateAfter, turns, noneFails, Event, history}
 use Rattle.agreement.specs.Demand3.{Sound, encryptedOf, Premises, Conclusions}
 use Rattle.agreement.specs.Demand2.{stateAfterAll}
-use Rattle.agreement.specs.Operations.{Seen, Keeps, KeepAll, Host, Kept, stepSeen, turnsSeen, callsSeen, stateSeen, madeBy, AsDefined, Unfailing, OperationsDefined, OperationsInRange, OperationsRule, OperationsAgree}
+use Rattle.agreement.specs.Operations.{Seen, Keeps, KeepAll, Host, Kept, stepSeen, turnsSeen, callsSeen, stateSeen, madeBy, Unfailing, OperationsDefined, OperationsInRange, OperationsRule, OperationsAgree}
 use Rattle.agreement.proofs.Created.{create-ok}
 use Rattle.agreement.proofs.Ranges.{calls-in-range}
 use Rattle.agreement.proofs.Demand2.{engine-rule}

@@ -10,7 +10,7 @@ use Rattle.engine.specs.Create.{Numbers, createReply, createState}
 use Rattle.calls.specs.Calls.{after, proposeCall, messageCall, skipReply, skipState}
 use Rattle.agreement.specs.History.{Call, propose, message, skip, Turn, turns, noneFails, Event, history}
 use Rattle.agreement.specs.Demand3.{Made, historyOf, encryptedOf, SameNetwork, Premises, Conclusions}
-use Rattle.agreement.specs.Demand2.{stateAfterAll, endOf, PaperRule}
+use Rattle.agreement.specs.Demand2.{endOf, PaperRule}
 
 -- a call that a host has made, its reply, and the lent words afterwards
 pub record Seen : Type 0 where

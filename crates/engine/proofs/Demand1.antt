@@ -11,7 +11,7 @@ use borrow.Author.Tests.{eqb-true, lt-leb, ne-eqb}
 use Rattle.steps.specs.Numbers.{lastEpoch}
 use Rattle.steps.specs.Answers.{tapeOf}
 use Rattle.steps.specs.Runs.{Verdict, going, refused, failed, numberOf, Run}
-use Rattle.state.specs.State.{nodes, currentEpoch, faultCount, scratchLength, scratchOf, stateLength, stateOk}
+use Rattle.state.specs.State.{nodes, currentEpoch, faultCount, scratchOf, stateLength, stateOk}
 use Rattle.work.specs.HoneyBadger.{skipToEpoch, hasInput, receivedProposals}
 use Rattle.calls.specs.Calls.{After, after, zeroed, isEnd, concludeAs, conclude, proposeAfter, proposeCall, messageCall, skipReply, skipState, queryReply, currentEpochResult, hasInputResult, receivedProposalsResult, faultCountResult}
 use Rattle.engine.specs.Create.{Numbers, numbersOk, createReply, createState}

@@ -1,7 +1,7 @@
 -- Cases beyond the twelve, in the language of BenchCases.antt: failed calls, the checks and their order, batches and has input, create's bounds,
 -- proposals and shares that are not looked at, votes above N−f, lists kept. Assumes nothing.
 use mathlib.Core.Path.{refl}
-use mathlib.Core.List.{List, [], _∷_, _++_}
+use mathlib.Core.List.{[], _∷_, _++_}
 use lib.ListN.{replicate}
 use Rattle.steps.specs.Steps.{item}
 use Rattle.steps.proofs.CaseTables.{_⇒_, case, AllHold, yes, no, out, table}

@@ -1,15 +1,13 @@
 -- What document 01 says of every call: the words of the laws that proofs/ proves. First the numbers that it lists for each operation.
-use Prim.Native.Nat.{ℕ, _+_, _≤_, _<_}
+use Prim.Native.Nat.{ℕ, _≤_}
 use mathlib.Core.Path.{_≡_}
-use mathlib.Core.Logic.{_≢_}
 use mathlib.Core.List.{List, [], _∷_}
 use mathlib.Core.Bool.{Bool, true, false, cond}
-use lib.ListN.{length, getD, replicate}
+use lib.ListN.{length}
 use lib.Dec.{eqb}
 use Rattle.steps.specs.Numbers.{success, notAState, scratchTooShort, answersMalformed, epochTooHigh, messageMalformed, answerNotNext, answersUnread, stepTableTooShort, unknownSender, createSubset, proposeBincode, inputSubset, handleSubsetMessage, decryption, multipleInputs}
 use Rattle.steps.specs.Table.{within}
-use Rattle.subset.specs.Words.{epochLength}
-use Rattle.state.specs.State.{headerLength, nodes, ahead, currentEpoch, input, scratchOf, epochAt, inputAt, epochWords}
+use Rattle.state.specs.State.{scratchOf}
 use Rattle.calls.specs.Calls.{After, zeroed}
 
 -- "1 to 12 turn a call down"

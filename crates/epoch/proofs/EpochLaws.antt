@@ -147,7 +147,26 @@ texts-framed net encrypted w w₁ v v′ t h grown f q l =
     (text-value encrypted (loadDecryption n w₁ q) (isAccepted w q) (v q) (v′ q) (t q) (grown q)
     (text-words encrypted n w w₁ q (isAccepted w q) (v q) (t q) (λ j a b. f (recordAt n q j) (outside-record n q j a (omega arith))) (h q l)))
 
--- and what it hands up
+-- what it hands up is processed, where the subset is not complete
+pub called-after : (net : NetworkInfo) (strategy : SubsetHandlingStrategy) (encrypted : Bool) (w : List ℕ) (u : Tape) (call : List ℕ → Tape → Run (List ℕ) Bool) → getD w statusAt 0 ≡ 1
+    → (P : Bool → List ℕ → Tape → Type 0) (Q : Unit {0} → List ℕ → Tape → Type 0) → Afterwards (call w u) P → Orderly (Frame (net .«num_nodes») w) subsetKinds u (call w u)
+    → ((done : Bool) (w₁ : List ℕ) (z : Tape) → P done w₁ z → Past subsetKinds (u .rest) (z .rest) → Frame (net .«num_nodes») w w₁ → Afterwards (processSubset net strategy encrypted done w₁ z) Q)
+    → Afterwards (callSubset net strategy encrypted call w u) Q
+unfolding callSubset handedUp
+called-after net strategy encrypted w u call ongoing P Q c o k =
+    rw ongoing
+    (after-onward (handedUp net strategy encrypted (getD w countAt 0) (call w u .verdict) (call w u)) _ _
+    (go (call w u .verdict) refl
+    (after-map (call w u) _ _ (after-with (call w u) _ (λ w₁ z. Past subsetKinds (u .rest) (z .rest) × Frame (net .«num_nodes») w w₁) (o .past, o .state) c)
+    (λ done w₁ z a. k done w₁ z (a .0) (a .1 .0) (a .1 .1)))))
+  where
+    go : (x : Verdict Bool) → call w u .verdict ≡ x → Afterwards (call w u) (λ done w₁ z. Afterwards (processSubset net strategy encrypted done w₁ z) Q)
+        → Afterwards (handedUp net strategy encrypted (getD w countAt 0) x (call w u)) (λ done w₁ z. Afterwards (processSubset net strategy encrypted done w₁ z) Q)
+    go (going done) e a = a
+    go refused e a = rw e tt
+    go (failed m) e a = rw e tt
+
+-- and what is told of it
 module _ (net : NetworkInfo) (strategy : SubsetHandlingStrategy) (encrypted : Bool) (w : List ℕ) (v d t : ℕ → Option ℕ) (who : Option ℕ) (comes : Bool)
     (h : Holds net strategy encrypted w v d t) (s : Going net strategy w v d) where
   abbrev N : ℕ
@@ -176,26 +195,10 @@ module _ (net : NetworkInfo) (strategy : SubsetHandlingStrategy) (encrypted : Bo
         votes = voted-after net v d comes (c .votes) (untold-past decryptionKinds decryption-subset (u .rest) (z .rest) (p .opening .past));
       })
 
-  -- a call that goes on hands up what it has
-  handed-ok : (k : ℕ) (r : Run (List ℕ) Bool) (Q : Bool → List ℕ → Tape → Type 0) → Afterwards r Q → Afterwards (handedUp net strategy encrypted k (r .verdict) r) Q
-  unfolding handedUp
-  handed-ok k r Q a = go (r .verdict) refl
-    where
-      go : (x : Verdict Bool) → r .verdict ≡ x → Afterwards (handedUp net strategy encrypted k x r) Q
-      go (going done) e = a
-      go refused e = rw e tt
-      go (failed m) e = rw e tt
-
   going-ok : (call : List ℕ → Tape → Run (List ℕ) Bool) (u : Tape) → Good N (u .rest)
       → Afterwards (call w u) (λ done w₁ z. Called old net comes v d (u .rest) done w₁ (z .rest)) → Orderly (Frame N w) subsetKinds u (call w u)
       → Afterwards (callSubset net strategy encrypted call w u) (λ _ w′ z. CallTold Holds net strategy encrypted v d t who comes (u .rest) w′ (z .rest))
-  unfolding callSubset
-  going-ok call u g c o =
-      rw (s .status)
-      (after-onward (handedUp net strategy encrypted (getD w countAt 0) (call w u .verdict) (call w u)) _ _
-      (handed-ok (getD w countAt 0) (call w u) _
-      (after-map (call w u) _ _ (after-with (call w u) _ (λ w₁ z. Past subsetKinds (u .rest) (z .rest) × Frame N w w₁) (o .past, o .state) c) (λ done w₁ z a.
-      called-then (u .rest) done w₁ z g (a .0) (a .1 .0) (a .1 .1)))))
+  going-ok call u g c o = called-after net strategy encrypted w u call (s .status) _ _ c o (λ done w₁ z a past f. called-then (u .rest) done w₁ z g a past f)
 
 -- any call of the subset
 pub record SubsetLaws (net : NetworkInfo) (comes : Bool) (call : List ℕ → Tape → Run (List ℕ) Bool) : Type 0 where

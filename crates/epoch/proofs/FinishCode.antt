@@ -1,16 +1,16 @@
 -- The end of `Done`: what the code leaves, case by case. Assumes nothing.
-use Prim.Native.Nat.{ℕ, zero, suc, _+_, _-_, _*_, _<_, _≤_}
+use Prim.Native.Nat.{ℕ, suc, _+_, _-_, _*_, _<_, _≤_}
 use native.Mathlib.Omega.{arith}
-use mathlib.Core.Path.{_≡_, refl, sym, ap, _∙_}
+use mathlib.Core.Path.{_≡_, refl, sym}
 use mathlib.Core.List.{List, [], _∷_, _++_}
 use mathlib.Core.Bool.{Bool, true, false, cond}
 use lib.ListN.{getD, set}
 use lib.Dec.{eqb}
-use borrow.Author.Tests.{eq-eqb, ne-eqb}
+use borrow.Author.Tests.{ne-eqb}
 use Rattle.network.specs.declared.network_info.NetworkInfo.{NetworkInfo}
 use Rattle.steps.specs.Answers.{Tape}
-use Rattle.steps.specs.Steps.{Entry, Out, putEntry, putAll, fault}
-use Rattle.steps.specs.Runs.{going, ends, before, onwardAs, onward, leaves}
+use Rattle.steps.specs.Steps.{Out, putEntry, putAll, fault}
+use Rattle.steps.specs.Runs.{going, ends, before, leaves}
 use Rattle.steps.proofs.ChainLaws.{putAll-append}
 use Rattle.steps.proofs.RunLaws.{leaves-before, onward-go}
 use Rattle.decryption.specs.declared.ThresholdDecrypt.{ThresholdDecrypt}

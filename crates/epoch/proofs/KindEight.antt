@@ -13,13 +13,13 @@ use borrow.Author.Tests.{eqb-true, eqb-false, le-leb}
 use Rattle.network.specs.declared.network_info.NetworkInfo.{NetworkInfo}
 use Rattle.network.specs.Network.{numCorrect}
 use Rattle.steps.specs.Answers.{Rec, Tape}
-use Rattle.steps.specs.Runs.{Verdict, going, refused, failed, Run, ends}
+use Rattle.steps.specs.Runs.{going, Run, ends}
 use Rattle.steps.specs.Taken.{orElse, isThere, isTrue, firstTaken, ofValue, ofDecision, onesFrom}
 use Rattle.steps.specs.Times.{timesAsked}
 use Rattle.steps.proofs.TakenFromChain.{Bit, Good}
 use Rattle.steps.proofs.ReadByKinds.{Past, past-good}
 use Rattle.steps.proofs.TimesAsked.{past-times}
-use Rattle.subset.specs.Words.{statusAt, decidedAt, acceptedAt, countAt, recordAt, proposalAt, valueAt, arrivalAt}
+use Rattle.subset.specs.Words.{statusAt, decidedAt, acceptedAt, countAt, proposalAt, valueAt, arrivalAt}
 use Rattle.subset.specs.Subset.{propose as proposeSubset, handleMessage as handleSubset}
 use Rattle.subset.specs.Rule.{isOver}
 use Rattle.steps.proofs.AfterRun.{Afterwards, after-map, after-cond, after-onward, after-inside, Reads, after-ask, after-about, after-with, after-both, after-any}
@@ -30,19 +30,19 @@ use Rattle.epochwords.specs.declared.SubsetHandlingStrategy.{SubsetHandlingStra
 use Rattle.epochwords.specs.declared.SubsetHandlingStrategy.the-variants.{Incremental, AllAtEnd}
 use Rattle.epoch.specs.declared.MessageContent.{MessageContent}
 use Rattle.epoch.specs.declared.MessageContent.the-variants.{Subset, DecryptionShare}
-use Rattle.epochwords.specs.Words.{isAccepted, DecryptionState, missing, complete, loadEntry, loadDecryption, storeDecryption}
+use Rattle.epochwords.specs.Words.{isAccepted, DecryptionState, missing, complete, loadEntry, storeDecryption}
 use Rattle.epoch.proofs.QuietRuns.{Orderly, Any, quiet-fault, orders, ordering}
 use Rattle.epoch.proofs.Walk.{Entries, Finishes, entry-keeps, share-message-keeps, finish-keeps}
-use Rattle.epoch.specs.Epoch.{firstContributions, handlesNow, subsetComplete, proposalDropped, entryAfter, callEntry, inputCiphertext, sendDecryptionShare, handleDecryptionShare, finishFrom, handleContribution, handleFrom, handleContributions, processSubset, handedUp, callSubset, propose, handleMessageContent}
+use Rattle.epoch.specs.Epoch.{firstContributions, handlesNow, subsetComplete, proposalDropped, entryAfter, callEntry, inputCiphertext, sendDecryptionShare, handleDecryptionShare, finishFrom, handleContribution, handleFrom, handleContributions, processSubset, callSubset, propose, handleMessageContent}
 use Rattle.epoch.proofs.Interface.{shareOf, CallTold}
-use Rattle.epoch.proofs.QuietLayers.{subsetKinds, subset-eight, entryKinds, entry-eight, outside-accepted, outside-record, Frame, inputs, input-runs}
+use Rattle.epoch.proofs.QuietLayers.{subsetKinds, subset-eight, entryKinds, entry-eight, outside-accepted, Frame, inputs, input-runs}
 use Rattle.epoch.proofs.Plaintexts.{reads-past}
 use Rattle.epochwords.proofs.EntryStored.{accepted-kept, store-low}
-use Rattle.epoch.proofs.EntryInvariant.{text-words, text-value, TextsOk}
+use Rattle.epoch.proofs.EntryInvariant.{TextsOk}
 use Rattle.epoch.proofs.ContributionsHandled.{held-same, Contributed, contribution-ok, output-value}
 use Rattle.epoch.proofs.FinishedWords.{cut-word}
 use Rattle.epoch.proofs.Invariant.{handledBy, Going, Done, Holds}
-use Rattle.epoch.proofs.EpochLaws.{accepted-framed, texts-framed, SubsetLaws, proposes, handles, handled-ok, proposed-ok, settled-known}
+use Rattle.epoch.proofs.EpochLaws.{accepted-framed, texts-framed, called-after, SubsetLaws, proposes, handles, handled-ok, proposed-ok, settled-known}
 
 -- once, where a proposer is accepted in an encrypted epoch
 abbrev pub once : Bool → Bool → ℕ
@@ -231,15 +231,6 @@ module _ (net : NetworkInfo) (strategy : SubsetHandlingStrategy) (encrypted : Bo
   abbrev nn : ℕ
   nn = net .«num_nodes»
 
-  handed-tallied : (k : ℕ) (r : Run (List ℕ) Bool) (Q : Bool → List ℕ → Tape → Type 0) → Afterwards r Q → Afterwards (handedUp net strategy encrypted k (r .verdict) r) Q
-  unfolding handedUp
-  handed-tallied k r Q a = go (r .verdict) refl
-    where
-      go : (x : Verdict Bool) → r .verdict ≡ x → Afterwards (handedUp net strategy encrypted k x r) Q
-      go (going done) e = a
-      go refused e = rw e tt
-      go (failed m) e = rw e tt
-
   called-tallied : (comes : Bool) (s : Going net strategy w v d) (ws : List Rec) (done : Bool) (w₁ : List ℕ) (u : Tape) → Called (handledBy strategy v d) net comes v d ws done w₁ (u .rest) → Past subsetKinds ws (u .rest) → Frame nn w w₁
       → Afterwards (processSubset net strategy encrypted done w₁ u) (λ _ w′ z. Tallied encrypted nn w ws w′ (z .rest))
   called-tallied comes s ws done w₁ u c past f =
@@ -254,13 +245,9 @@ module _ (net : NetworkInfo) (strategy : SubsetHandlingStrategy) (encrypted : Bo
     where
       go : Going net strategy w v d ⊎ Done net w v d → Afterwards (callSubset net strategy encrypted call w u) (λ _ w′ z. Tallied encrypted nn w (u .rest) w′ (z .rest))
       go (inl s) =
-          rw (s .status)
-          (after-onward (handedUp net strategy encrypted (getD w countAt 0) (call w u .verdict) (call w u)) _ _
-          (handed-tallied (getD w countAt 0) (call w u) _
-          (after-map (call w u) _ _
-          (after-with (call w u) _ (λ w₁ z. Past subsetKinds (u .rest) (z .rest) × Frame nn w w₁) (c .orderly w u .past, c .orderly w u .state)
-          (c .called (handledBy strategy v d) w v d (s .held) u g (s .undecided ∙ ap (λ x. cond x 1 0) (sym (s .over))))) (λ done w₁ z a.
-          called-tallied comes s (u .rest) done w₁ z (a .0) (a .1 .0) (a .1 .1)))))
+          called-after net strategy encrypted w u call (s .status) _ _
+          (c .called (handledBy strategy v d) w v d (s .held) u g (s .undecided ∙ ap (λ x. cond x 1 0) (sym (s .over)))) (c .orderly w u)
+          (λ done w₁ z a past f. called-tallied comes s (u .rest) done w₁ z a past f)
       go (inr s) = rw (s .status) (λ q l. refl)
 
   handled-tallied : (sender p : ℕ) (content : MessageContent) (u : Tape) → Good nn (u .rest)

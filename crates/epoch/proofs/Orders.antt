@@ -23,7 +23,7 @@ use Rattle.decryption.specs.Decrypt.{setCiphertext}
 use Rattle.subset.specs.Words.{recordLength, epochLength, statusAt, decidedAt, acceptedAt, countAt, recordAt, proposalAt, valueAt, arrivalAt, addContribution}
 use Rattle.subset.specs.Bits.{receivedTags, proposalsIn}
 use Rattle.subset.specs.Subset.{receivedProposals as receivedBySubset}
-use Rattle.subset.proofs.ProposalStored.{apart, differ, add-word, add-value, add-arrival}
+use Rattle.subset.proofs.ProposalStored.{places, apart, differ, add-word, add-value, add-arrival}
 use Rattle.subset.proofs.Bits.{ones-bits, received-ones}
 use Rattle.epochwords.specs.declared.SubsetHandlingStrategy.{SubsetHandlingStrategy}
 use Rattle.epochwords.specs.declared.SubsetHandlingStrategy.the-variants.{AllAtEnd}
@@ -32,7 +32,7 @@ use Rattle.epoch.specs.Epoch.{receivedProposals, unexpectedFrom, unexpec
 use Rattle.epochwords.specs.Batch.{decryptedFrom, isReadyIn, isReady}
 use Rattle.subset.specs.Rule.{Contribution, contributionsFrom}
 use Rattle.epoch.specs.Orders.{receivedBits, isUnexpected, bySender, byProposer, handleEach}
-use Rattle.epochwords.proofs.EntryStored.{accept-word, accept-same, entry-tag, store-size, places, store-word, store-subset}
+use Rattle.epochwords.proofs.EntryStored.{accept-word, accept-same, entry-tag, store-size, store-word, store-subset}
 use Rattle.steps.proofs.Logic.{anything}
 use Rattle.steps.proofs.StateKept.{holding, still}
 use Rattle.epoch.proofs.Walk.{Handles, handles-hold, contribution-keeps}

@@ -7,7 +7,6 @@ use mathlib.Core.Option.{Option, none, some}
 use Rattle.network.specs.declared.network_info.NetworkInfo.{NetworkInfo}
 use Rattle.steps.specs.Numbers.{proposalSerialised, proposeBincode, inputSubset, handleSubsetMessage}
 use Rattle.steps.specs.Answers.{Tape, ask}
-use Rattle.steps.specs.declared.step.Step.{Step}
 use Rattle.steps.specs.Steps.{Out, out}
 use Rattle.steps.specs.Runs.{Verdict, going, refused, failed, Run, ends, onward, heard, Left}
 use Rattle.decryption.specs.declared.ThresholdDecrypt.{ThresholdDecrypt}

@@ -15,7 +15,7 @@ use Rattle.steps.specs.declared.reader.Answer.{Answer}
 use Rattle.steps.specs.declared.reader.Answer.the-variants.{Got, Refused as NoAnswer}
 use Rattle.steps.specs.Answers.{Tape, asked, askAbout}
 use Rattle.steps.specs.Steps.{Out, putEntry, putAll, fault, output}
-use Rattle.steps.specs.Runs.{Verdict, going, refused, failed, ends, before, onward, leaves}
+use Rattle.steps.specs.Runs.{going, refused, ends, before, onward, leaves}
 use Rattle.steps.specs.Bits.{hasBit, withBit, countBits}
 use Rattle.steps.proofs.RunLaws.{heard-got, heard-none, leaves-before}
 use Rattle.subset.specs.Words.{recordLength, fieldAt}

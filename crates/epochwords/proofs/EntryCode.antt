@@ -3,13 +3,12 @@ use Prim.Native.Nat.{ℕ, zero, suc, _+_, _-_, _*_, _<_, _≤_}
 use mathlib.Core.Path.{_≡_, refl, ap, _∙_}
 use mathlib.Core.List.{List, [], _∷_, _++_, append-assoc}
 use native.Mathlib.Omega.{arith}
-use native.Mathlib.Nat.{mul-le-mul-right, mul-le-mul-left, suc-mul, mul-comm}
+use native.Mathlib.Nat.{mul-le-mul-right, suc-mul}
 use lib.ListN.{length, getD, set, replicate}
 use lib.Seq.{set-at}
 use Rattle.subset.specs.Words.{recordAt, epochLength}
 use lib.Dec.{eqb}
 use mathlib.Core.Bool.{not}
-use Rattle.decryption.specs.declared.ThresholdDecrypt.{ThresholdDecrypt}
 use Rattle.epochwords.specs.Words.{ciphertextAt, hadInputAt, terminatedAt, shareAt, sharesFrom, loadInstance, setShares}
 
 -- before the first turn of a loop, n are left

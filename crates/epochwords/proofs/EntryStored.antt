@@ -14,6 +14,7 @@ use Rattle.steps.specs.Bits.{hasBit, withBit}
 use Rattle.decryption.specs.declared.ThresholdDecrypt.{ThresholdDecrypt}
 use Rattle.decryption.specs.Decrypt.{new}
 use Rattle.subset.specs.Words.{epochLength, acceptedAt, recordAt}
+use Rattle.subset.proofs.ProposalStored.{places}
 use Rattle.epochwords.specs.Words.{isAccepted, accept, DecryptionState, missing, ongoing, complete, decryptionAt, plaintextAt, ciphertextAt, hadInputAt, terminatedAt, shareAt, setShares, flag, storeEntry, storeDecryption}
 
 -- THE ACCEPTED PROPOSERS
@@ -93,16 +94,7 @@ pub accepted-kept : (w w′ : List ℕ) → getD w′ acceptedAt 0 ≡ getD w ac
 unfolding isAccepted
 accepted-kept w w′ e q = rw e
 
--- AN ENTRY. Two proposers' words are at different places
-pub places : (n p q j k : ℕ) → j < 8 + n → k < 8 + n → (p ≡ q → ⊥) → recordAt n p j ≡ recordAt n q k → ⊥
-places n p q j k a b ne e = go (ltb p q) refl
-  where
-    go : (x : Bool) → ltb p q ≡ x → ⊥
-    go true t = let u = ltb-true p q t in omega (arith, mul-le-mul-right (8 + n) u, suc-mul p (8 + n))
-    go false t =
-        let u : q < p = omega (arith, ltb-false p q t) in
-        omega (arith, mul-le-mul-right (8 + n) u, suc-mul q (8 + n))
-
+-- AN ENTRY
 -- i is none of the words that p's entry has
 abbrev pub Apart : ℕ → ℕ → ℕ → Type 0
 Apart n p i = (j : ℕ) → 2 ≤ j → j < 8 + n → (j ≡ 7 → ⊥) → i ≡ recordAt n p j → ⊥

@@ -14,14 +14,17 @@ use Rattle.proposal.specs.declared.ProposalState.the-variants.{Ongoing, HasValu
 use Rattle.subset.specs.Words.{epochLength, countAt, recordAt, proposalAt, valueAt, arrivalAt, proposalOf, tagOf, valueOf, loadProposal, storeProposal, addContribution}
 
 -- PLACES. Two proposers' words are at different places, and all are inside
-pub apart : (n p q j k : ℕ) → j < 8 → k < 8 → (p ≡ q → ⊥) → recordAt n p j ≡ recordAt n q k → ⊥
-apart n p q j k a b ne e = go (ltb p q) refl
+pub places : (n p q j k : ℕ) → j < 8 + n → k < 8 + n → (p ≡ q → ⊥) → recordAt n p j ≡ recordAt n q k → ⊥
+places n p q j k a b ne e = go (ltb p q) refl
   where
     go : (x : Bool) → ltb p q ≡ x → ⊥
     go true t = let u = ltb-true p q t in omega (arith, mul-le-mul-right (8 + n) u, suc-mul p (8 + n))
     go false t =
         let u : q < p = omega (arith, ltb-false p q t) in
         omega (arith, mul-le-mul-right (8 + n) u, suc-mul q (8 + n))
+
+pub apart : (n p q j k : ℕ) → j < 8 → k < 8 → (p ≡ q → ⊥) → recordAt n p j ≡ recordAt n q k → ⊥
+apart n p q j k a b = places n p q j k (omega arith) (omega arith)
 
 -- and so are two words of different numbers
 pub differ : (n p q j k : ℕ) → j < 8 → k < 8 → (j ≡ k → ⊥) → recordAt n p j ≡ recordAt n q k → ⊥

@@ -30,7 +30,7 @@ use Rattle.subset.specs.Words.{decidedAt, isDecided, loadProposal, store
 use Rattle.proposal.specs.Proposal.{asksAgreement, asksBroadcast, handleAgreement, handleBroadcast}
 use Rattle.subset.specs.Subset.{countAccepted, allComplete, contributed, atProposal, broadcastAt, agreementAt, voteFrom, votes, tryOutput, propose, handleMessage}
 use Rattle.proposal.specs.Outcomes.{verdict, left}
-use Rattle.subset.specs.Outcomes.{outputOf, storedAs, passing, passed, passingVerdict, leftPassed, thenOutput, messageAt}
+use Rattle.subset.specs.Outcomes.{outputOf, storedAs, passed, passingVerdict, leftPassed, thenOutput, messageAt}
 use Rattle.proposal.proofs.proposal_state.Outcome.{the-type as outcome-type}
 use Rattle.subset.proofs.subset.Passing.{the-type as passing-type}
 

@@ -10,7 +10,6 @@ use Rattle.steps.specs.Numbers.{broadcastMessage, agreementMessage}
 use Rattle.steps.specs.Answers.{Tape}
 use Rattle.steps.specs.declared.reader.Content.{Content}
 use Rattle.steps.specs.declared.reader.Content.the-variants.{Broadcast, Agreement}
-use Rattle.steps.specs.declared.reader.Output.{Output}
 use Rattle.steps.specs.Steps.{out}
 use Rattle.steps.specs.Runs.{Verdict, going, refused, failed, Run, ends, Left}
 use Rattle.proposal.specs.declared.proposal_state.Outcome.{Outcome}
