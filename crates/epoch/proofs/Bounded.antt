@@ -5,20 +5,19 @@ use mathlib.Core.List.{List}
 use mathlib.Core.Bool.{Bool}
 use native.Mathlib.Omega.{arith}
 use Rattle.network.specs.declared.network_info.NetworkInfo.{NetworkInfo}
-use Rattle.steps.proofs.Logic.{anything}
-use Rattle.steps.proofs.Bounded.{bounded-wider, spends-bounded, counting}
+use Rattle.steps.proofs.Logic.{anything, permits-anything}
+use Rattle.steps.proofs.Bounded.{bounded-wider, spends-bounded, counting, counting-stateless}
 use Rattle.decryption.specs.declared.ThresholdDecrypt.{ThresholdDecrypt}
-use Rattle.decryption.proofs.Bounded.{rules as combines}
 use Rattle.proposal.specs.declared.ProposalState.{ProposalState}
 use Rattle.subset.specs.Words.{recordLength}
-use Rattle.subset.proofs.Bounded.{Writes, rules as subsets}
+use Rattle.subset.proofs.Bounded.{Writes}
 use Rattle.epochwords.specs.declared.SubsetHandlingStrategy.{SubsetHandlingStrategy}
 use Rattle.epochwords.specs.Batch.{outputBatchIn, outputBatch}
 use Rattle.epochwords.proofs.Walk.{Batches, batch-keeps}
 use Rattle.epoch.specs.declared.MessageContent.{MessageContent}
 use Rattle.epoch.specs.Epoch.{propose, handleMessageContent}
 pub use Rattle.epoch.proofs.Walk.{atDone}
-use Rattle.epoch.proofs.Walk.{Rules, propose-keeps, content-keeps}
+use Rattle.epoch.proofs.Walk.{Rules, any-rules, propose-keeps, content-keeps}
 
 -- THE BATCH
 batches : Batches anything
@@ -32,22 +31,7 @@ batch-writes n epoch w p = batch-in-writes (recordLength n) n epoch w p
 
 -- THE EPOCH'S TWO CALLS
 rules : (n : ℕ) → Rules anything (counting ThresholdDecrypt) (counting (List ℕ)) n (counting ProposalState)
-rules n = record {
-  subset = subsets n;
-  handles = record {
-    entries = record { entered = λ p m w t r g. record { spent = g .spent }; dropped = λ w o. tt };
-    inputs = record { combines = combines; number = tt; invalid = λ p. tt; ciphertext = λ td c u. tt };
-    reads = tt;
-    unreadable = λ p. tt;
-    listed = λ i m w t r g. g tt tt;
-    opened = λ p value w u. tt;
-    accepted = λ p w i. tt;
-  };
-  finishes = record { late = λ a. tt; finished = λ p w. tt; unexpected = λ p w. tt };
-  emptied = λ m w t r g. record { spent = g .spent };
-  cut = λ m w t r g. record { spent = g .spent };
-  done = λ w. tt;
-}
+rules n = any-rules counting-stateless permits-anything tt tt n
 
 module _ (net : NetworkInfo) (strategy : SubsetHandlingStrategy) (encrypted : Bool) where
   pub propose-writes : Writes (1 + atDone net) (propose net strategy encrypted)
