@@ -9,25 +9,12 @@ use Rattle.steps.proofs.Logic.{anything, permits-anything}
 use Rattle.steps.proofs.Bounded.{bounded-wider, spends-bounded, counting, counting-stateless}
 use Rattle.decryption.specs.declared.ThresholdDecrypt.{ThresholdDecrypt}
 use Rattle.proposal.specs.declared.ProposalState.{ProposalState}
-use Rattle.subset.specs.Words.{recordLength}
 use Rattle.subset.proofs.Bounded.{Writes}
 use Rattle.epochwords.specs.declared.SubsetHandlingStrategy.{SubsetHandlingStrategy}
-use Rattle.epochwords.specs.Batch.{outputBatchIn, outputBatch}
-use Rattle.epochwords.proofs.Walk.{Batches, batch-keeps}
 use Rattle.epoch.specs.declared.MessageContent.{MessageContent}
 use Rattle.epoch.specs.Epoch.{propose, handleMessageContent}
 pub use Rattle.epoch.proofs.Walk.{atDone}
 use Rattle.epoch.proofs.Walk.{Rules, any-rules, propose-keeps, content-keeps}
-
--- THE BATCH
-batches : Batches anything
-batches = record { reads = tt; faults = λ p. tt; outputs = λ k a b e. tt }
-
-pub batch-in-writes : (size n epoch : ℕ) → Writes (1 + n) (outputBatchIn size n epoch)
-batch-in-writes size n epoch w p = spends-bounded _ _ p _ (batch-keeps anything (counting (List ℕ)) batches size n epoch w p)
-
-pub batch-writes : (n epoch : ℕ) → Writes (1 + n) (outputBatch n epoch)
-batch-writes n epoch w p = batch-in-writes (recordLength n) n epoch w p
 
 -- THE EPOCH'S TWO CALLS
 rules : (n : ℕ) → Rules anything (counting ThresholdDecrypt) (counting (List ℕ)) n (counting ProposalState)

@@ -23,12 +23,12 @@ use Rattle.steps.proofs.ReadsFirstPart.{anyKind}
 use Rattle.decryption.specs.declared.ThresholdDecrypt.{ThresholdDecrypt}
 use Rattle.decryption.specs.Decrypt.{handleMessage as handleShare}
 use Rattle.proposal.specs.declared.ProposalState.{ProposalState}
-use Rattle.subset.specs.Words.{countOf, decidedAt, acceptedAt, statusAt, countAt, recordAt, proposalAt, valueAt, arrivalAt, storeProposal, addContribution}
+use Rattle.subset.specs.Words.{decidedAt, acceptedAt, statusAt, countAt, recordAt, proposalAt, valueAt, arrivalAt, storeProposal, addContribution}
 use Rattle.subset.specs.Subset.{contributed, propose as proposeSubset, handleMessage as handleSubset}
 use Rattle.subset.proofs.ProposalStored.{differ, store-word}
 use Rattle.epochwords.specs.declared.SubsetHandlingStrategy.{SubsetHandlingStrategy}
 use Rattle.epoch.specs.declared.MessageContent.{MessageContent}
-use Rattle.epoch.specs.Epoch.{firstContributions, inputCiphertext, propose, handleMessageContent}
+use Rattle.epoch.specs.Epoch.{inputCiphertext, propose, handleMessageContent}
 use Rattle.epoch.proofs.Interface.{Quiet}
 use Rattle.epoch.proofs.Walk.{Inputs, Rules, any-rules, input-keeps, propose-keeps, content-keeps}
 use Rattle.decryption.proofs.Walk.{not-five, handle-keeps as share-keeps}
