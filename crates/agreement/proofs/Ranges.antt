@@ -24,8 +24,8 @@ use Rattle.work.specs.Work.{epochCall, workIn, proposeWork, messageWork, commit
 use Rattle.calls.specs.Calls.{After, countFaults, isEnd, concludeAs, proposeAfter, messageCall, contentOk, itemOk, contentOf, skipReply, skipState}
 use Rattle.agreement.specs.History.{propose as proposing, message as messaging, skip as skipping, stateAfter}
 use Rattle.agreement.specs.Demand2.{CallsInRange}
-use Rattle.calls.proofs.CheckCases.{by-branch, by-propose as by-checks-of-propose, by-message as by-checks-of-message}
-use Rattle.work.proofs.RunBesideState.{work-words, work-next, by-propose, by-message}
+use Rattle.calls.proofs.CheckCases.{by-branch, by-propose, by-message}
+use Rattle.work.proofs.RunBesideState.{work-words, work-next, by-propose-apart, by-message-apart}
 use Rattle.work.proofs.WorkRanges.{WordsOk, propose-in-range as propose-runs, message-in-range as message-runs}
 use Rattle.state.proofs.RangesState.{StateOk, input-ok, epoch-ok, faults-ok, with-ok, without-ok, header-ok, enter, leave}
 
@@ -99,14 +99,14 @@ module _ (w : List ℕ) (ok : stateOk w ≡ true) where
     propose-ok : (p : Tape) → AllSmall (p .rest) → InRange (propose w p .state)
     unfolding proposeWork
     propose-ok p small =
-        by-propose w ok p (λ r. InRange (r .state))
+        by-propose-apart w ok p (λ r. InRange (r .state))
         (commit-ok (set w inputAt 1) (input-ok w _ some w entered 1 (omega arith)) (currentEpoch w) _ p (propose-runs w ok p small (currentEpoch w))) entered
 
     message-ok : (sender epoch proposer : ℕ) (content : MessageContent) → proposer < nodes w → ContentOk content → (p : Tape) → AllSmall (p .rest)
         → InRange (handleMessage sender epoch proposer content w p .state)
     unfolding messageWork
     message-ok sender epoch proposer content l u p small =
-        by-message w ok p sender epoch proposer content (λ r. InRange (r .state))
+        by-message-apart w ok p sender epoch proposer content (λ r. InRange (r .state))
         (λ _ _. commit-ok w entered epoch _ p (message-runs w ok p small epoch sender proposer content l u)) entered entered
 
   answers-small : (answers : List ℕ) → tableOk (nodes w) answers ≡ true → AllSmall (tapeOf answers .rest)
@@ -115,7 +115,7 @@ module _ (w : List ℕ) (ok : stateOk w ≡ true) where
   -- g is the reply of a further check, 0 for propose
   pub propose-in-range : (scratch answers step : List ℕ) (g : ℕ) → stateOk (proposeAfter w scratch answers step g .state) ≡ true
   propose-in-range scratch answers step g =
-      by-checks-of-propose Ranged w scratch answers step ok ok (λ _. ok) (λ _. ok) g (λ _ _. ok)
+      by-propose Ranged w scratch answers step ok ok (λ _. ok) (λ _. ok) g (λ _ _. ok)
       (λ c. conclude-ok _ (propose w (tapeOf answers)) _ _ step (propose-ok (c .epoch) (tapeOf answers) (answers-small answers (c .table))))
 
   content-ok : (content item : ℕ) → itemOk content item ≡ true → ContentOk (contentOf content item)
@@ -137,7 +137,7 @@ module _ (w : List ℕ) (ok : stateOk w ≡ true) where
   message-in-range : (scratch answers step : List ℕ) (sender epoch content proposer item : ℕ)
       → stateOk (messageCall w scratch answers step sender epoch content proposer item .state) ≡ true
   message-in-range scratch answers step sender epoch content proposer item =
-      by-checks-of-message Ranged w scratch answers step ok ok (λ _. ok) (λ _. ok) (λ _. ok) (λ _. ok) sender epoch content proposer item
+      by-message Ranged w scratch answers step ok ok (λ _. ok) (λ _. ok) (λ _. ok) (λ _. ok) sender epoch content proposer item
       (λ c d. conclude-ok _ (handleMessage sender epoch proposer (contentOf content item) w (tapeOf answers)) epoch _ step
       (message-ok (c .epoch) sender epoch proposer _ (proposer-known content proposer (d .contentIs)) (content-ok content item (d .itemIs)) (tapeOf answers) (answers-small answers (c .table))))
 

@@ -26,7 +26,7 @@ use Rattle.work.specs.Work.{workIn, proposeWork, messageWork}
 use Rattle.work.specs.Shape.{callWork}
 use Rattle.state.proofs.RangeCode.{ok-words}
 use Rattle.work.proofs.Walk.{behind, any-works, work-keeps}
-use Rattle.work.proofs.RunBesideState.{by-propose, by-message}
+use Rattle.work.proofs.RunBesideState.{by-propose-apart, by-message-apart}
 
 -- WHAT A CALL WRITES besides one entry for each record that it reads. An epoch: at most 16 × 16 faults 2 and one fault more
 abbrev pub epochLimit : ℕ
@@ -64,13 +64,13 @@ module _ (w : List ℕ) (ok : stateOk w ≡ true) where
   -- an observer's propose runs no epoch
   propose-bounded : (p : Tape) → Bounded callLimit p (propose w p)
   unfolding proposeWork
-  propose-bounded p = by-propose w ok p (Bounded callLimit p) (record { short = call-bounded Propose (currentEpoch w) p .short }) (record { short = omega arith })
+  propose-bounded p = by-propose-apart w ok p (Bounded callLimit p) (record { short = call-bounded Propose (currentEpoch w) p .short }) (record { short = omega arith })
 
   -- nor does a message beyond the look-ahead, which writes fault 1, or a late one
   message-bounded : (sender epoch proposer : ℕ) (content : MessageContent) (p : Tape) → Bounded callLimit p (handleMessage sender epoch proposer content w p)
   unfolding messageWork
   message-bounded sender epoch proposer content p =
-      by-message w ok p sender epoch proposer content (Bounded callLimit p) (λ _ _. record { short = call-bounded (Message sender proposer content) epoch p .short })
+      by-message-apart w ok p sender epoch proposer content (Bounded callLimit p) (λ _ _. record { short = call-bounded (Message sender proposer content) epoch p .short })
       (record { short = omega arith }) (record { short = omega arith })
 
   module _ (answers : List ℕ) (good : tableOk (nodes w) answers ≡ true) where

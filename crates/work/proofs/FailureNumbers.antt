@@ -16,7 +16,7 @@ use Rattle.state.specs.State.{stateOk}
 use Rattle.work.specs.HoneyBadger.{propose, handleMessage}
 use Rattle.work.specs.Work.{workIn, proposeWork, messageWork}
 use Rattle.work.proofs.Walk.{any-works, work-keeps}
-use Rattle.work.proofs.RunBesideState.{by-propose, by-message}
+use Rattle.work.proofs.RunBesideState.{by-propose-apart, by-message-apart}
 
 module _ (ok : ℕ → Bool) (ok-24 : ok 24 ≡ true) (ok-25 : ok 25 ≡ true) where
   -- AN EPOCH fails with 24 and 25 of threshold decryption, with the number that the subset's caller gives, and with 21 where the proposal is serialised
@@ -38,10 +38,10 @@ module _ (ok : ℕ → Bool) (ok-24 : ok 24 ≡ true) (ok-25 : ok 25 ≡ true) w
     pub only-propose : ok 21 ≡ true → ok 22 ≡ true → (w : List ℕ) → stateOk w ≡ true → (p : Tape) → Only ok (propose w p)
     unfolding proposeWork
     only-propose ok-21 ok-22 w good p =
-        by-propose w good p (Only ok) (record { fails = only-work w _ _ (only-propose-epoch _ _ _ ok-21 ok-22) p .fails }) (record { fails = tt })
+        by-propose-apart w good p (Only ok) (record { fails = only-work w _ _ (only-propose-epoch _ _ _ ok-21 ok-22) p .fails }) (record { fails = tt })
 
     pub only-message : ok 23 ≡ true → (sender epoch proposer : ℕ) (c : MessageContent) (w : List ℕ) → stateOk w ≡ true → (p : Tape) → Only ok (handleMessage sender epoch proposer c w p)
     unfolding messageWork
     only-message ok-23 sender epoch proposer c w good p =
-        by-message w good p sender epoch proposer c (Only ok) (λ _ _. record { fails = only-work w _ _ (only-content _ _ _ ok-23 sender proposer c) p .fails })
+        by-message-apart w good p sender epoch proposer c (Only ok) (λ _ _. record { fails = only-work w _ _ (only-content _ _ _ ok-23 sender proposer c) p .fails })
         (record { fails = tt }) (record { fails = tt })

@@ -63,7 +63,7 @@ module _ (n : ℕ) (x : List ℕ) (p : Tape) where
     pub call-full : (body : List ℕ → Tape → Run (List ℕ) (Unit {0})) → ((y : List ℕ) (q : Tape) → length (body y q .state) ≡ length y) → length (epochCall n body x p .state) ≡ epochLength n
     call-full body sized = call-keeps (λ y. length y ≡ epochLength n) full new-full body (λ y q h. sized y q ∙ h)
 
-mut-inside : (n f : ℕ) (w : List ℕ) → Shaped n f w → (e : ℕ) (p : Tape) → epochStateMut e w p ≡ inside (withEpoch w e) (built n (epochWords w e) p)
+pub mut-inside : (n f : ℕ) (w : List ℕ) → Shaped n f w → (e : ℕ) (p : Tape) → epochStateMut e w p ≡ inside (withEpoch w e) (built n (epochWords w e) p)
 unfolding epochStateMut built heard heardAs
 mut-inside n f w h e p = rw (h .nodes) (go (isVacant x) (ask p 1 .answer))
   where
@@ -275,13 +275,13 @@ module _ (w : List ℕ) (ok : stateOk w ≡ true) (p : Tape) where
           rw (head epochAt (omega arith), net-same u w numbers, strategy-same u w numbers, encrypted-same u w numbers c)
 
   -- what holds of that run, and of one that does nothing, holds of propose
-  pub by-propose : (P : Run (List ℕ) (Unit {0}) → Type 0) → P (inside (committed (set w inputAt 1) (currentEpoch w)) (proposeWork w p)) → P (ends (going tt) w p) → P (propose w p)
-  by-propose P runs none = rw propose-apart (either P (isValidator (netOf w)) _ _ (λ _. runs) (λ _. none))
+  pub by-propose-apart : (P : Run (List ℕ) (Unit {0}) → Type 0) → P (inside (committed (set w inputAt 1) (currentEpoch w)) (proposeWork w p)) → P (ends (going tt) w p) → P (propose w p)
+  by-propose-apart P runs none = rw propose-apart (either P (isValidator (netOf w)) _ _ (λ _. runs) (λ _. none))
 
   pub propose-counts : faultCount (propose w p .state) ≡ faultCount w
   unfolding proposeWork
   propose-counts =
-      by-propose (λ r. faultCount (r .state) ≡ faultCount w)
+      by-propose-apart (λ r. faultCount (r .state) ≡ faultCount w)
       (commit-counts w given (over-input w ok) (currentEpoch w) (omega arith) (omega arith)
       (proposing w (currentEpoch w)) (sized-propose (netOf w) (strategyOf w) (encryptedIn w (currentEpoch w))) p
       ∙ getD-set-other w inputAt faultsAt 1 0 (omega arith))
@@ -328,17 +328,17 @@ module _ (w : List ℕ) (ok : stateOk w ≡ true) (p : Tape) where
                 rw (net-same u w numbers, strategy-same u w numbers, encrypted-same u w numbers epoch)
 
     -- what holds of that run where the epoch is in the window, of one that does nothing, and of one that writes fault 1 alone holds of the message
-    pub by-message : (P : Run (List ℕ) (Unit {0}) → Type 0)
+    pub by-message-apart : (P : Run (List ℕ) (Unit {0}) → Type 0)
         → (currentEpoch w ≤ epoch → epoch ≤ currentEpoch w + ahead w → P (inside (committed w epoch) (messageWork sender epoch proposer content w p)))
         → P (before (fault 1 sender 0 ∷ []) (ends (going tt) w p)) → P (ends (going tt) w p) → P (handleMessage sender epoch proposer content w p)
-    by-message P runs far late =
+    by-message-apart P runs far late =
         rw message-apart (either P (ltb (currentEpoch w + ahead w) epoch) _ _ (λ _. far) (λ a.
         either P (ltb epoch (currentEpoch w)) _ _ (λ _. late) (λ b. runs (ltb-false _ _ b) (ltb-false _ _ a))))
 
     pub message-counts : faultCount (handleMessage sender epoch proposer content w p .state) ≡ faultCount w
     unfolding messageWork
     message-counts =
-        by-message (λ r. faultCount (r .state) ≡ faultCount w) (λ low high. commit-counts w w (over-same w ok) epoch low high (handling w) size p) refl refl
+        by-message-apart (λ r. faultCount (r .state) ≡ faultCount w) (λ low high. commit-counts w w (over-same w ok) epoch low high (handling w) size p) refl refl
 
     pub message-failed : currentEpoch w ≤ epoch → epoch ≤ currentEpoch w + ahead w → (error : ℕ) → messageWork sender epoch proposer content w p .verdict ≡ failed error
         → committed w epoch (messageWork sender epoch proposer content w p .state) ≡ withEpoch w epoch (messageWork sender epoch proposer content w p .state .words)
