@@ -13,7 +13,7 @@ use Rattle.decryption.proofs.Walk.{Combines, any-combines, set-keeps, s
 abbrev pub Writes : {A : Type 0} → ℕ → (ThresholdDecrypt → Tape → Run ThresholdDecrypt A) → Type 0
 Writes more k = (td : ThresholdDecrypt) (p : Tape) → Bounded more p (k td p)
 
-pub rules : Combines anything (counting ThresholdDecrypt)
+rules : Combines anything (counting ThresholdDecrypt)
 rules = any-combines (counting ThresholdDecrypt) (λ td s. tt) permits-anything tt
 
 pub set-writes : (more proposer ciphertext : ℕ) → Writes more (setCiphertext proposer ciphertext)

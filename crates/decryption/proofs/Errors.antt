@@ -125,7 +125,7 @@ early-none net proposer sender share td p z = ended (td .terminated) refl
 abbrev checking : (ok : ℕ → Bool) → Checks (numbers ok) (failing ok ThresholdDecrypt)
 checking ok = record { reads = λ k e. tt; faults = λ k a e. tt; share = λ td i v u. tt; removed = λ td i. tt }
 
-pub rules : (ok : ℕ → Bool) → ok 24 ≡ true → Combines (numbers ok) (failing ok ThresholdDecrypt)
+rules : (ok : ℕ → Bool) → ok 24 ≡ true → Combines (numbers ok) (failing ok ThresholdDecrypt)
 rules ok e = any-combines (failing ok ThresholdDecrypt) (λ td s. tt) (numbers-permit ok) e
 
 pub set-fails : (proposer ciphertext : ℕ) (td : ThresholdDecrypt) (p : Tape) (m : ℕ) → setCiphertext proposer ciphertext td p .verdict ≡ failed m → m ≡ 25

@@ -1,5 +1,5 @@
--- How many entries an epoch writes besides one for each record that it reads: at Done the faults 2, N × N at most; a fault 2 or 6 after a
--- share; in a batch its record and N entries. Assumes nothing.
+-- How many entries an epoch's calls write besides one for each record that they read: at Done the faults 2, N × N at most; a fault 2 or 6 after a
+-- share. Assumes nothing.
 use Prim.Native.Nat.{ℕ, _+_}
 use mathlib.Core.List.{List}
 use mathlib.Core.Bool.{Bool}
