@@ -51,7 +51,7 @@ module _ (n : ℕ) (x : List ℕ) (p : Tape) where
     pub call-keeps : (body : List ℕ → Tape → Run (List ℕ) (Unit {0})) → ((y : List ℕ) (q : Tape) → P y → P (body y q .state)) → P (epochCall n body x p .state)
     call-keeps body f = call-walk _ _ n builds 0 body f x p old
 
-  -- it has as many words as it had, and so it has after its call
+  -- all words of an epoch are there after building, and after a call that leaves as many as it had
   module _ (full : length x ≡ epochLength n) where
     new-full : length (newEpoch n) ≡ epochLength n
     unfolding newEpoch
