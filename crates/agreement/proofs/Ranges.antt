@@ -1,6 +1,6 @@
 -- Every call keeps the range rule of the state, failed and refused ones too. Assumes nothing.
 use Prim.Native.Nat.{ℕ, zero, suc, _+_, _/_, _≤_, _<_}
-use mathlib.Core.Path.{_≡_, refl, subst}
+use mathlib.Core.Path.{_≡_, refl}
 use mathlib.Core.List.{List}
 use mathlib.Core.Bool.{Bool, true, false, cond, not}
 use native.Mathlib.Omega.{arith}
@@ -8,116 +8,29 @@ use lib.ListN.{length, set}
 use lib.Dec.{eqb, leb, ltb}
 use borrow.Author.Tests.{eqb-true, leb-true, ltb-true, ltb-false}
 use Rattle.steps.specs.Numbers.{lastEpoch, faultLimit}
-use Rattle.network.specs.Network.{isValidator}
 use Rattle.steps.specs.Table.{handle, within, tableOk}
 use Rattle.steps.specs.Answers.{Tape, tapeOf}
 use Rattle.steps.specs.Steps.{Entry, faults}
-use Rattle.steps.specs.Runs.{Verdict, going, refused, failed, Run, ends, onward}
+use Rattle.steps.specs.Runs.{Verdict, going, refused, failed, Run}
 use Rattle.steps.proofs.ChainLaws.{and-true}
-use Rattle.steps.proofs.Ranges.{by-test, AllSmall, table-small, Kept, Any, kept-going, kept-failed, kept-before, kept-cond, kept-ask, kept-then}
-use Rattle.subset.specs.Words.{countOf}
-use Rattle.subset.proofs.Ranges.{EpochOk, SafeEpoch}
+use Rattle.steps.proofs.Ranges.{by-test, AllSmall, table-small, Kept, Any}
 use Rattle.epoch.specs.declared.MessageContent.{MessageContent}
 use Rattle.steps.specs.declared.reader.Content.the-variants.{Broadcast, Agreement}
 use Rattle.epoch.specs.declared.MessageContent.the-variants.{Subset, DecryptionShare}
-use Rattle.epochwords.specs.Words.{isVacant, mostKept}
-use Rattle.epochwords.specs.Batch.{isReady, outputBatch}
-use Rattle.epoch.proofs.ListEmptied.{new-epoch-none, propose-keeps, content-keeps}
-use Rattle.epoch.proofs.Ranges.{ContentOk, new-epoch-ok, batch-safe, propose-safe, content-safe}
-use Rattle.state.specs.State.{nodes, ahead, currentEpoch, faultCount, inputAt, faultsAt, epochAt, netOf, strategyOf, encryptedIn, epochWords, withoutEpoch, stateOk}
-use Rattle.work.specs.HoneyBadger.{updateEpoch, epochStateMut, inEpoch, tryOutputBatches, propose, handleMessage, clearBelow, skipToEpoch}
+use Rattle.epoch.proofs.Ranges.{ContentOk}
+use Rattle.state.specs.State.{nodes, ahead, currentEpoch, faultCount, inputAt, faultsAt, epochAt, epochWords, withoutEpoch, stateOk}
+use Rattle.work.specs.HoneyBadger.{propose, handleMessage, clearBelow, skipToEpoch}
+use Rattle.work.specs.Work.{epochCall, workIn, proposeWork, messageWork, committed}
 use Rattle.calls.specs.Calls.{After, countFaults, isEnd, concludeAs, proposeAfter, messageCall, contentOk, itemOk, contentOf, skipReply, skipState}
 use Rattle.agreement.specs.History.{propose as proposing, message as messaging, skip as skipping, stateAfter}
 use Rattle.agreement.specs.Demand2.{CallsInRange}
 use Rattle.calls.proofs.CheckCases.{by-branch, by-propose, by-message}
-use Rattle.work.proofs.LoopOnlyReads.{same-batch}
-use Rattle.state.proofs.RangesState.{StateOk, input-ok, epoch-ok, faults-ok, nodes-same, ahead-same, strategy-same, current-below, words-ok, with-ok, without-ok, state-wider, header-ok, enter, leave}
+use Rattle.work.proofs.RunBesideState.{work-words, work-next, by-propose-apart, by-message-apart}
+use Rattle.work.proofs.WorkRanges.{WordsOk, propose-in-range as propose-runs, message-in-range as message-runs}
+use Rattle.state.proofs.RangesState.{StateOk, input-ok, epoch-ok, faults-ok, with-ok, without-ok, header-ok, enter, leave}
 
--- the runs of a state that came from w, whose nodes are 1 to 16
-module _ (w : List ℕ) (some : 0 < nodes w) (few : nodes w ≤ 16) where
-  -- a run of an engine whose current epoch is at most b ends with one of at most c
-  abbrev SafeState : ℕ → ℕ → (List ℕ → Tape → Run (List ℕ) (Unit {0})) → Type 0
-  SafeState b c k = (v : List ℕ) (p : Tape) → StateOk w b v → AllSmall (p .rest) → Kept (StateOk w c) Any (k v p)
-
-  update-ok : (b : ℕ) (v : List ℕ) → StateOk w b v → StateOk w (b + 1) (updateEpoch v)
-  unfolding updateEpoch
-  update-ok b v h =
-      let k : StateOk w (b + 1) (withoutEpoch v (currentEpoch v)) = state-wider w b (b + 1) (omega arith) _ (without-ok w b some v h (currentEpoch v)) in
-      let l : StateOk w (b + 1) (set (withoutEpoch v (currentEpoch v)) epochAt (currentEpoch v + 1)) = epoch-ok w (b + 1) some _ k (currentEpoch v + 1) (omega (arith, current-below w b some v h)) in
-      input-ok w (b + 1) some _ l 0 (omega arith)
-
-  mut-safe : (b epoch : ℕ) → SafeState b b (epochStateMut epoch)
-  unfolding epochStateMut
-  mut-safe b epoch v p h o =
-      kept-cond (isVacant (epochWords v epoch)) _ _
-      (λ _. kept-ask p 1 v _ refl h o (λ x y q _ o.
-      kept-cond (eqb x 0) _ _ (λ _. kept-failed h o) (λ _. kept-going (with-ok w b some v h epoch _ (rw (nodes-same w b some v h) (new-epoch-ok (nodes w) some)) (omega (arith, new-epoch-none (nodes v)))) o tt)))
-      (λ _. kept-going h o tt)
-
-  -- a call of an epoch that ends with its words in range keeps no more contributions than it may
-  abbrev Lists : (List ℕ → Tape → Run (List ℕ) (Unit {0})) → Type 0
-  Lists call = (x : List ℕ) (p : Tape) → countOf x ≤ mostKept (strategyOf w) (nodes w) → EpochOk (nodes w) (call x p .state) → countOf (call x p .state) ≤ mostKept (strategyOf w) (nodes w)
-
-  in-safe : (b epoch : ℕ) (v : List ℕ) (p : Tape) (call : List ℕ → Tape → Run (List ℕ) (Unit {0})) → StateOk w b v → AllSmall (p .rest) → SafeEpoch (nodes v) call → Lists call
-      → Kept (StateOk w b) Any (inEpoch epoch call v p)
-  unfolding inEpoch
-  in-safe b epoch v p call h o s l =
-      let e = nodes-same w b some v h in
-      let k = subst (λ (n : ℕ). SafeEpoch n call) e s (epochWords v epoch) p (words-ok w b some v h epoch) o in
-      record { state = with-ok w b some v h epoch _ (k .state) (l (epochWords v epoch) p (h .lists epoch) (k .state)); tape = k .tape; value = k .value }
-
-  batches-safe : (m b : ℕ) → SafeState b (b + m) (tryOutputBatches m)
-  unfolding tryOutputBatches
-  batches-safe zero b v p h o = kept-going (state-wider w b (b + 0) (omega arith) v h) o tt
-  batches-safe (suc m) b v p h o = go (isReady (nodes v) (epochWords v (currentEpoch v))) (λ v q h o. batches-safe m (b + 1) v q h o)
-    where
-      go : (x : Bool) → SafeState (b + 1) ((b + 1) + m) (tryOutputBatches m) → Kept {A = Unit {0}} (StateOk w (b + suc m)) Any
-          (elim x [
-            | true ↦ onward (inEpoch (currentEpoch v) (outputBatch (nodes v) (currentEpoch v)) v p) (λ _ w q. tryOutputBatches m (updateEpoch w) q)
-            | false ↦ ends (going tt) v p
-          ])
-      go true f =
-          kept-then _ _ (state-wider w b (b + suc m) (omega arith)) (in-safe b (currentEpoch v) v p _ h o (batch-safe (nodes v) (currentEpoch v)) (λ x q k _. rw (same-batch (nodes v) (currentEpoch v) x q) k)) (λ _ v q h o _.
-          let e : (b + 1) + m ≡ b + suc m = omega arith in
-          subst (λ (c : ℕ). Kept (StateOk w c) Any (tryOutputBatches m (updateEpoch v) q)) e (f (updateEpoch v) q (update-ok b v h) o))
-      go false f = kept-going (state-wider w b (b + suc m) (omega arith) v h) o tt
-
-  at-least : (b : ℕ) (v : List ℕ) → StateOk w b v → 0 < nodes v
-  at-least b v h = rw (nodes-same w b some v h) some
-
-  at-most : (b : ℕ) (v : List ℕ) → StateOk w b v → nodes v ≤ 16
-  at-most b v h = rw (nodes-same w b some v h) few
-
-  -- F + 1 batches go out at most
-  output-safe : (b : ℕ) → SafeState b (b + (ahead w + 1)) (λ v p. tryOutputBatches (ahead v + 1) v p)
-  output-safe b v p h o = rw (ahead-same w b some v h) (batches-safe (ahead w + 1) b v p h o)
-
-  pub propose-run : (b : ℕ) → SafeState b (b + (ahead w + 1)) propose
-  unfolding propose netOf
-  propose-run b v p h o =
-      kept-cond (isValidator (netOf v)) _ _
-      (λ _. kept-then _ _ (state-wider w b _ (omega arith)) (mut-safe b (currentEpoch v) _ p (input-ok w b some v h 1 (omega arith)) o) (λ _ v q h o _.
-      kept-then _ _ (state-wider w b _ (omega arith))
-      (in-safe b (currentEpoch v) v q _ h o (propose-safe (netOf v) (at-least b v h) (at-most b v h) (strategyOf v) (encryptedIn v (currentEpoch v)))
-      (rw (← strategy-same w b some v h, ← nodes-same w b some v h) (λ x q k u. propose-keeps (netOf v) (encryptedIn v (currentEpoch v)) x q (strategyOf v) k u)))
-      (λ _ v q h o _. output-safe b v q h o)))
-      (λ _. kept-going (state-wider w b _ (omega arith) v h) o tt)
-
-  pub message-run : (b sender epoch proposer : ℕ) (content : MessageContent) → proposer < nodes w → ContentOk content
-      → SafeState b (b + (ahead w + 1)) (handleMessage sender epoch proposer content)
-  unfolding handleMessage netOf
-  message-run b sender epoch proposer content l u v p h o =
-      kept-cond (ltb (currentEpoch v + ahead v) epoch) _ _ (λ _. kept-before (kept-going (state-wider w b _ (omega arith) v h) o tt))
-      (λ _. kept-cond (ltb epoch (currentEpoch v)) _ _ (λ _. kept-going (state-wider w b _ (omega arith) v h) o tt)
-      (λ _. kept-then _ _ (state-wider w b _ (omega arith)) (mut-safe b epoch v p h o) (λ _ v q h o _.
-      kept-then _ _ (state-wider w b _ (omega arith))
-      (in-safe b epoch v q _ h o (content-safe (netOf v) (at-least b v h) (at-most b v h) (strategyOf v) (encryptedIn v epoch) sender proposer content (known b v h) u)
-      (rw (← strategy-same w b some v h, ← nodes-same w b some v h) (λ x q k u. content-keeps (netOf v) (encryptedIn v epoch) x q (strategyOf v) sender proposer content k u)))
-      (λ _ v q h o _. output-safe b v q h o))))
-    where
-      known : (b : ℕ) (v : List ℕ) → StateOk w b v → proposer < nodes v
-      known b v h = rw (nodes-same w b some v h) l
-
+-- WHAT IS WRITTEN to a state that came from w, which has nodes
+module _ (w : List ℕ) (some : 0 < nodes w) where
   -- skip
   clear-ok : (b target m epoch : ℕ) (v : List ℕ) → StateOk w b v → StateOk w b (clearBelow target m epoch v)
   unfolding clearBelow
@@ -153,30 +66,48 @@ abbrev Ranged : After → Type 0
 Ranged r = stateOk (r .state) ≡ true
 
 module _ (w : List ℕ) (ok : stateOk w ≡ true) where
+  abbrev some : 0 < nodes w
+  some = header-ok w ok .some
+
+  -- a state that came from w, whose current epoch is at most the last that the rule allows
+  abbrev InRange : List ℕ → Type 0
+  InRange v = StateOk w (lastEpoch + ahead w + 1) v
+
+  entered : InRange w
+  entered = enter w ok (lastEpoch + ahead w + 1) (header-ok w ok .epoch)
+
   -- what a run comes to
-  conclude-ok : (v : Verdict (Unit {0})) (r : Run (List ℕ) (Unit {0})) (epoch : ℕ) (scratch step : List ℕ) → Kept (StateOk w (lastEpoch + (ahead w + 1))) Any r
-      → stateOk (concludeAs v r epoch w scratch step .state) ≡ true
+  conclude-ok : (v : Verdict (Unit {0})) (r : Run (List ℕ) (Unit {0})) (epoch : ℕ) (scratch step : List ℕ) → InRange (r .state) → stateOk (concludeAs v r epoch w scratch step .state) ≡ true
   unfolding concludeAs
-  conclude-ok v r epoch scratch step k = by v
-    where
-      bound : lastEpoch + (ahead w + 1) ≡ lastEpoch + ahead w + 1
-      bound = omega arith
+  conclude-ok refused r epoch scratch step h = ok
+  conclude-ok (going x) r epoch scratch step h =
+      by-branch Ranged (not (isEnd (r .tape .rest))) (λ _. ok)
+      (λ _. by-branch Ranged (ltb (length step / 4) (1 + length (r .log))) (λ _. ok) (λ _. leave w ok _ (count-ok w some _ (r .state) (r .log) h)))
+  conclude-ok (failed error) r epoch scratch step h =
+      by-branch Ranged (not (isEnd (r .tape .rest))) (λ _. ok)
+      (λ _. by-branch Ranged (ltb (length step / 4) 1) (λ _. ok) (λ _. leave w ok (r .state) h))
 
-      ended : StateOk w (lastEpoch + ahead w + 1) (r .state)
-      ended = subst (λ (b : ℕ). StateOk w b (r .state)) bound (k .state)
+  -- a run and its commit: the epoch's words are in range, and at most F + 1 batches went out
+  module _ (early : currentEpoch w ≤ lastEpoch) where
+    commit-ok : (v : List ℕ) → InRange v → (e : ℕ) (body : List ℕ → Tape → Run (List ℕ) (Unit {0})) (p : Tape) → Kept (WordsOk w) Any (epochCall (nodes w) body (epochWords w e) p)
+        → InRange (committed v e (workIn w e body p .state))
+    unfolding committed
+    commit-ok v h e body p k =
+        let x : WordsOk w (workIn w e body p .state .words) = rw (work-words w e body p) (k .state) in
+        skip-ok w some _ _ _ (omega (arith, work-next w e body p)) (with-ok w _ some v h e _ (x .0) (x .1))
 
-      by : (v : Verdict (Unit {0})) → stateOk (concludeAs v r epoch w scratch step .state) ≡ true
-      by refused = ok
-      by (going x) =
-          by-branch Ranged (not (isEnd (r .tape .rest))) (λ _. ok)
-          (λ _. by-branch Ranged (ltb (length step / 4) (1 + length (r .log))) (λ _. ok)
-          (λ _. leave w ok _ (count-ok w (header-ok w ok .some) (header-ok w ok .few) _ (r .state) (r .log) ended)))
-      by (failed error) =
-          by-branch Ranged (not (isEnd (r .tape .rest))) (λ _. ok)
-          (λ _. by-branch Ranged (ltb (length step / 4) 1) (λ _. ok) (λ _. leave w ok (r .state) ended))
+    propose-ok : (p : Tape) → AllSmall (p .rest) → InRange (propose w p .state)
+    unfolding proposeWork
+    propose-ok p small =
+        by-propose-apart w ok p (λ r. InRange (r .state))
+        (commit-ok (set w inputAt 1) (input-ok w _ some w entered 1 (omega arith)) (currentEpoch w) _ p (propose-runs w ok p small (currentEpoch w))) entered
 
-  entered : currentEpoch w ≤ lastEpoch → StateOk w lastEpoch w
-  entered e = enter w ok lastEpoch e
+    message-ok : (sender epoch proposer : ℕ) (content : MessageContent) → proposer < nodes w → ContentOk content → (p : Tape) → AllSmall (p .rest)
+        → InRange (handleMessage sender epoch proposer content w p .state)
+    unfolding messageWork
+    message-ok sender epoch proposer content l u p small =
+        by-message-apart w ok p sender epoch proposer content (λ r. InRange (r .state))
+        (λ _ _. commit-ok w entered epoch _ p (message-runs w ok p small epoch sender proposer content l u)) entered entered
 
   answers-small : (answers : List ℕ) → tableOk (nodes w) answers ≡ true → AllSmall (tapeOf answers .rest)
   answers-small answers e = table-small (nodes w) answers (header-ok w ok .few) e
@@ -185,8 +116,7 @@ module _ (w : List ℕ) (ok : stateOk w ≡ true) where
   pub propose-in-range : (scratch answers step : List ℕ) (g : ℕ) → stateOk (proposeAfter w scratch answers step g .state) ≡ true
   propose-in-range scratch answers step g =
       by-propose Ranged w scratch answers step ok ok (λ _. ok) (λ _. ok) g (λ _ _. ok)
-      (λ c. conclude-ok _ (propose w (tapeOf answers)) _ _ step
-      (propose-run w (header-ok w ok .some) (header-ok w ok .few) lastEpoch w (tapeOf answers) (entered (c .epoch)) (answers-small answers (c .table))))
+      (λ c. conclude-ok _ (propose w (tapeOf answers)) _ _ step (propose-ok (c .epoch) (tapeOf answers) (answers-small answers (c .table))))
 
   content-ok : (content item : ℕ) → itemOk content item ≡ true → ContentOk (contentOf content item)
   unfolding itemOk contentOf ContentOk
@@ -209,8 +139,7 @@ module _ (w : List ℕ) (ok : stateOk w ≡ true) where
   message-in-range scratch answers step sender epoch content proposer item =
       by-message Ranged w scratch answers step ok ok (λ _. ok) (λ _. ok) (λ _. ok) (λ _. ok) sender epoch content proposer item
       (λ c d. conclude-ok _ (handleMessage sender epoch proposer (contentOf content item) w (tapeOf answers)) epoch _ step
-      (message-run w (header-ok w ok .some) (header-ok w ok .few) lastEpoch sender epoch proposer _
-      (proposer-known content proposer (d .contentIs)) (content-ok content item (d .itemIs)) w (tapeOf answers) (entered (c .epoch)) (answers-small answers (c .table))))
+      (message-ok (c .epoch) sender epoch proposer _ (proposer-known content proposer (d .contentIs)) (content-ok content item (d .itemIs)) (tapeOf answers) (answers-small answers (c .table))))
 
   skip-in-range : (target : ℕ) → stateOk (skipState target w) ≡ true
   unfolding skipState skipReply
@@ -220,7 +149,7 @@ module _ (w : List ℕ) (ok : stateOk w ≡ true) where
       by true e = rw ok ok
       by false e =
           rw ok
-          (leave w ok _ (skip-ok w (header-ok w ok .some) (header-ok w ok .few) _ target w (omega (arith, ltb-false lastEpoch target e)) (enter w ok (lastEpoch + ahead w + 1) (header-ok w ok .epoch))))
+          (leave w ok _ (skip-ok w some _ target w (omega (arith, ltb-false lastEpoch target e)) entered))
 
 -- "no state the engine leaves breaks them"
 pub calls-in-range : CallsInRange

@@ -63,7 +63,7 @@ module _ (w scratch answers step : List ℕ) where
         c .ok,
         c .table,
         conclude-passes proposeFailures refl (propose w (tapeOf answers)) (currentEpoch w) w (zeroed w scratch) step
-            (only-propose (oneOf proposeFailures) refl refl refl refl refl w (tapeOf answers) .fails) z,
+            (only-propose (oneOf proposeFailures) refl refl refl refl refl w (c .ok) (tapeOf answers) .fails) z,
       ))
     where
       P : After → Type 0
@@ -88,7 +88,7 @@ module _ (w scratch answers step : List ℕ) where
           d .fromNode,
           d .contentIs,
           conclude-passes messageFailures refl (handleMessage sender epoch proposer (contentOf content item) w (tapeOf answers)) epoch w (zeroed w scratch) step
-              (only-message (oneOf messageFailures) refl refl refl refl sender epoch proposer (contentOf content item) w (tapeOf answers) .fails) z,
+              (only-message (oneOf messageFailures) refl refl refl refl sender epoch proposer (contentOf content item) w (c .ok) (tapeOf answers) .fails) z,
         ))
       where
         P : After → Type 0

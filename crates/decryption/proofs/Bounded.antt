@@ -3,7 +3,7 @@ use Prim.Native.Nat.{ℕ}
 use Rattle.network.specs.declared.network_info.NetworkInfo.{NetworkInfo}
 use Rattle.steps.specs.Answers.{Tape}
 use Rattle.steps.specs.Runs.{Run}
-use Rattle.steps.proofs.Logic.{anything}
+use Rattle.steps.proofs.Logic.{anything, permits-anything}
 use Rattle.steps.proofs.Bounded.{Bounded, spends-bounded, counting}
 use Rattle.decryption.specs.Decrypt.{setCiphertext, startDecryption, handleMessage}
 use Rattle.decryption.specs.declared.ThresholdDecrypt.{ThresholdDecrypt}
@@ -13,8 +13,8 @@ use Rattle.decryption.proofs.Walk.{Combines, any-combines, set-keeps, s
 abbrev pub Writes : {A : Type 0} → ℕ → (ThresholdDecrypt → Tape → Run ThresholdDecrypt A) → Type 0
 Writes more k = (td : ThresholdDecrypt) (p : Tape) → Bounded more p (k td p)
 
-pub rules : Combines anything (counting ThresholdDecrypt)
-rules = any-combines (counting ThresholdDecrypt) (λ td s. tt)
+rules : Combines anything (counting ThresholdDecrypt)
+rules = any-combines (counting ThresholdDecrypt) (λ td s. tt) permits-anything tt
 
 pub set-writes : (more proposer ciphertext : ℕ) → Writes more (setCiphertext proposer ciphertext)
 set-writes more proposer ciphertext td p = spends-bounded _ _ p _ (set-keeps anything (counting ThresholdDecrypt) proposer ciphertext tt tt (λ td. tt) more td p)

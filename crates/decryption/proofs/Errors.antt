@@ -14,13 +14,13 @@ use Rattle.steps.specs.Steps.{fault}
 use Rattle.steps.specs.Runs.{going, failed, Run, ends, before, onward}
 use Rattle.steps.proofs.Logic.{anything}
 use Rattle.steps.proofs.StateKept.{holding}
-use Rattle.steps.proofs.FailureNumbers.{only-number, numbers, failing}
+use Rattle.steps.proofs.FailureNumbers.{only-number, numbers, numbers-permit, failing}
 use Rattle.decryption.specs.Decrypt.{withShares, withInput, withEnd, isSome, isSender, countShares, setCiphertext, removeInvalidShares, ownShare, combine, tryWith, startDecryption, tryOutput, storeShare, handleMessage}
 use Rattle.decryption.specs.declared.ThresholdDecrypt.{ThresholdDecrypt}
 use Rattle.decryption.specs.declared.Validity.the-variants.{Valid}
 use Rattle.steps.proofs.AfterRun.{Afterwards, after-cond, after-out, after-about}
 use Rattle.decryption.proofs.CycleCode.{cond-cong, start-redundant, start-onward, try-few, try-none}
-use Rattle.decryption.proofs.Walk.{Does, Checks, Combines, set-keeps as set-walk, remove-keeps as remove-walk, start-keeps as start-walk, try-keeps as try-walk, store-keeps as store-walk, handle-keeps as handle-walk}
+use Rattle.decryption.proofs.Walk.{Does, Checks, Combines, any-combines, set-keeps as set-walk, remove-keeps as remove-walk, start-keeps as start-walk, try-keeps as try-walk, store-keeps as store-walk, handle-keeps as handle-walk}
 use Rattle.decryption.proofs.MessageCode.{store-first, store-again, handle-ended, handle-valid}
 use Rattle.decryption.proofs.ShareCode.{valid-early, valid-told}
 
@@ -125,8 +125,8 @@ early-none net proposer sender share td p z = ended (td .terminated) refl
 abbrev checking : (ok : ℕ → Bool) → Checks (numbers ok) (failing ok ThresholdDecrypt)
 checking ok = record { reads = λ k e. tt; faults = λ k a e. tt; share = λ td i v u. tt; removed = λ td i. tt }
 
-pub rules : (ok : ℕ → Bool) → ok 24 ≡ true → Combines (numbers ok) (failing ok ThresholdDecrypt)
-rules ok e = record { checks = checking ok; sends = λ a b. tt; text = tt; number = e; input = λ td. tt; end = λ td. tt }
+rules : (ok : ℕ → Bool) → ok 24 ≡ true → Combines (numbers ok) (failing ok ThresholdDecrypt)
+rules ok e = any-combines (failing ok ThresholdDecrypt) (λ td s. tt) (numbers-permit ok) e
 
 pub set-fails : (proposer ciphertext : ℕ) (td : ThresholdDecrypt) (p : Tape) (m : ℕ) → setCiphertext proposer ciphertext td p .verdict ≡ failed m → m ≡ 25
 set-fails proposer ciphertext td p m e = eqb-true m 25 (only-number (λ n. eqb n 25) _ m (set-walk _ (failing (λ n. eqb n 25) ThresholdDecrypt) proposer ciphertext tt refl (λ td. tt) 0 td p) e)

@@ -6,13 +6,15 @@ use mathlib.Core.Option.{Option, none}
 use native.Mathlib.Omega.{arith}
 use lib.ListN.{set}
 use lib.Dec.{leb, eqb}
+use borrow.Author.Tests.{ne-eqb, leb-true}
 use Rattle.network.specs.declared.network_info.NetworkInfo.{NetworkInfo}
 use Rattle.network.specs.Network.{isValidator}
 use Rattle.steps.specs.Table.{within}
 use Rattle.steps.specs.Answers.{Tape}
 use Rattle.steps.specs.Steps.{message, fault}
 use Rattle.steps.specs.Runs.{Run}
-use Rattle.steps.proofs.Logic.{Hand, hand, nothing, Terms, anything, Logic, here, there, test, fail, move, put, hear, next, tell}
+use Rattle.steps.proofs.ChainLaws.{and-true}
+use Rattle.steps.proofs.Logic.{Hand, hand, nothing, Terms, Permits, Logic, here, there, test, fail, move, put, hear, next, tell}
 use Rattle.decryption.specs.Decrypt.{withCiphertext, withShares, withInput, withEnd, isSome, isSender, countShares, setCiphertext, isShareValid, checkShare, removeFrom, ownShare, startWith, combine, tryWith, startDecryption, tryOutput, storeShare, handleMessage}
 use Rattle.decryption.specs.declared.ThresholdDecrypt.{ThresholdDecrypt}
 
@@ -163,12 +165,15 @@ module _ (T : Terms) (L : Logic T ThresholdDecrypt) where
         (store-keeps sender share u n td q)))
 
 -- where it makes no difference what is read and written, and every step is allowed
-pub any-combines : (L : Logic anything ThresholdDecrypt) → ((s t : ThresholdDecrypt) → L .Step none s none t) → Combines anything L
-any-combines L step = record {
-  checks = record { reads = λ k e. tt; faults = λ k a e. tt; share = λ td i v u. step td _; removed = λ td i. step td _ };
-  sends = λ a b. tt;
-  text = tt;
-  number = tt;
+pub not-five : (k : ℕ) → within 6 7 k ≡ true → eqb k 5 ≡ false
+not-five k e = ne-eqb k 5 (λ z. omega (arith, leb-true 6 k (and-true (leb 6 k) (leb k 7) e .0)))
+
+pub any-combines : {T : Terms} (L : Logic T ThresholdDecrypt) → ((s t : ThresholdDecrypt) → L .Step none s none t) → Permits T → T .Number 24 → Combines T L
+any-combines L step P number = record {
+  checks = record { reads = λ k e. P .reads k; faults = λ k a e. P .faults k a (not-five k e); share = λ td i v u. step td _; removed = λ td i. step td _ };
+  sends = P .sends;
+  text = P .text;
+  number = number;
   input = λ td. step td _;
   end = λ td. step td _;
 }

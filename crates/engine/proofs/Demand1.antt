@@ -101,7 +101,7 @@ propose-after-promised others state scratch answers step g more-g not-g =
     (λ room. turned room 5 (old 5 refl) refl) (λ room. turned room 6 (old 6 refl) refl) g (λ _ room. turned room g more-g not-g)
     (λ c. fine-conclude replies state scratch step (c .room) (old 0 refl) (old 8 refl) (old 9 refl) (old 10 refl)
     proposeFailures (λ x m. old x (more-by proposeCalls proposeFailures x m)) far
-    _ (currentEpoch state) (only-propose (oneOf proposeFailures) refl refl refl refl refl state (tapeOf answers)))
+    _ (currentEpoch state) (only-propose (oneOf proposeFailures) refl refl refl refl refl state (c .ok) (tapeOf answers)))
   where
     replies : List ℕ
     replies = others ++ proposeReplies
@@ -133,7 +133,7 @@ message-promised state scratch answers step sender epoch content proposer item =
     sender epoch content proposer item
     (λ c _. fine-conclude messageReplies state scratch step (c .room) refl refl refl refl
     messageFailures (more-by messageCalls messageFailures) far
-    _ epoch (only-message (oneOf messageFailures) refl refl refl refl sender epoch proposer _ state (tapeOf answers)))
+    _ epoch (only-message (oneOf messageFailures) refl refl refl refl sender epoch proposer _ state (c .ok) (tapeOf answers)))
   where
     turned : scratchOf state ≤ length scratch → (n : ℕ) → oneOf messageReplies n ≡ true → oneOf (3 ∷ 4 ∷ []) n ≡ false
         → Promised messageReplies state scratch step (after n state (zeroed state scratch) step)

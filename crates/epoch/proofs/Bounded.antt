@@ -1,53 +1,24 @@
--- How many entries an epoch writes besides one for each record that it reads: at Done the faults 2, N × N at most; a fault 2 or 6 after a
--- share; in a batch its record and N entries. Assumes nothing.
+-- How many entries an epoch's calls write besides one for each record that they read: at Done the faults 2, N × N at most; a fault 2 or 6 after a
+-- share. Assumes nothing.
 use Prim.Native.Nat.{ℕ, _+_}
 use mathlib.Core.List.{List}
 use mathlib.Core.Bool.{Bool}
 use native.Mathlib.Omega.{arith}
 use Rattle.network.specs.declared.network_info.NetworkInfo.{NetworkInfo}
-use Rattle.steps.proofs.Logic.{anything}
-use Rattle.steps.proofs.Bounded.{bounded-wider, spends-bounded, counting}
+use Rattle.steps.proofs.Logic.{anything, permits-anything}
+use Rattle.steps.proofs.Bounded.{bounded-wider, spends-bounded, counting, counting-stateless}
 use Rattle.decryption.specs.declared.ThresholdDecrypt.{ThresholdDecrypt}
-use Rattle.decryption.proofs.Bounded.{rules as combines}
 use Rattle.proposal.specs.declared.ProposalState.{ProposalState}
-use Rattle.subset.specs.Words.{recordLength}
-use Rattle.subset.proofs.Bounded.{Writes, rules as subsets}
+use Rattle.subset.proofs.Bounded.{Writes}
 use Rattle.epochwords.specs.declared.SubsetHandlingStrategy.{SubsetHandlingStrategy}
-use Rattle.epochwords.specs.Batch.{outputBatchIn, outputBatch}
-use Rattle.epochwords.proofs.Walk.{Batches, batch-keeps}
 use Rattle.epoch.specs.declared.MessageContent.{MessageContent}
 use Rattle.epoch.specs.Epoch.{propose, handleMessageContent}
 pub use Rattle.epoch.proofs.Walk.{atDone}
-use Rattle.epoch.proofs.Walk.{Rules, propose-keeps, content-keeps}
-
--- THE BATCH
-batches : Batches anything
-batches = record { reads = tt; faults = λ p. tt; outputs = λ k a b e. tt }
-
-pub batch-in-writes : (size n epoch : ℕ) → Writes (1 + n) (outputBatchIn size n epoch)
-batch-in-writes size n epoch w p = spends-bounded _ _ p _ (batch-keeps anything (counting (List ℕ)) batches size n epoch w p)
-
-pub batch-writes : (n epoch : ℕ) → Writes (1 + n) (outputBatch n epoch)
-batch-writes n epoch w p = batch-in-writes (recordLength n) n epoch w p
+use Rattle.epoch.proofs.Walk.{Rules, any-rules, propose-keeps, content-keeps}
 
 -- THE EPOCH'S TWO CALLS
 rules : (n : ℕ) → Rules anything (counting ThresholdDecrypt) (counting (List ℕ)) n (counting ProposalState)
-rules n = record {
-  subset = subsets n;
-  handles = record {
-    entries = record { entered = λ p m w t r g. record { spent = g .spent }; dropped = λ w o. tt };
-    inputs = record { combines = combines; number = tt; invalid = λ p. tt; ciphertext = λ td c u. tt };
-    reads = tt;
-    unreadable = λ p. tt;
-    listed = λ i m w t r g. g tt tt;
-    opened = λ p value w u. tt;
-    accepted = λ p w i. tt;
-  };
-  finishes = record { late = λ a. tt; finished = λ p w. tt; unexpected = λ p w. tt };
-  emptied = λ m w t r g. record { spent = g .spent };
-  cut = λ m w t r g. record { spent = g .spent };
-  done = λ w. tt;
-}
+rules n = any-rules counting-stateless permits-anything tt tt n
 
 module _ (net : NetworkInfo) (strategy : SubsetHandlingStrategy) (encrypted : Bool) where
   pub propose-writes : Writes (1 + atDone net) (propose net strategy encrypted)

@@ -23,7 +23,7 @@ use Rattle.epochwords.specs.Words.{isComplete, DecryptionState, storeDecryption
 use Rattle.epoch.specs.Epoch.{firstContributions, handlesNow, subsetComplete, proposalDropped, finishFrom, handleContributions, processSubset, handedUp, callSubset, propose, handleMessageContent}
 use Rattle.epochwords.proofs.EntryStored.{store-low}
 use Rattle.steps.proofs.StateKept.{keeps-heard, keeps-onward, still}
-use Rattle.steps.proofs.Logic.{either}
+use Rattle.steps.proofs.Logic.{permits-anything, either}
 use Rattle.decryption.proofs.Walk.{any-combines}
 use Rattle.epoch.proofs.Walk.{entries-hold, finishes-hold, share-message-keeps, finish-keeps}
 
@@ -98,7 +98,7 @@ module _ (net : NetworkInfo) where
     unfolding handleMessageContent
     content-none sender p (Subset content) w u h = call-none _ w u h
     content-none sender p (DecryptionShare share) w u h =
-        share-message-keeps _ _ _ net (entries-hold n NoneKept (none-stored n)) (any-combines still (λ s t h. tt)) (λ a. tt) sender p share tt 0 w u h
+        share-message-keeps _ _ _ net (entries-hold n NoneKept (none-stored n)) (any-combines still (λ s t h. tt) permits-anything tt) (λ a. tt) sender p share tt 0 w u h
 
 -- SO THE RANGE RULE'S WORD 3 IS KEPT: a call that ends with its words in range keeps no more contributions than the strategy allows
 module _ (net : NetworkInfo) (encrypted : Bool) (w : List ℕ) (u : Tape) where

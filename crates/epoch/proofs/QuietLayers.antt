@@ -19,20 +19,21 @@ use Rattle.steps.specs.Taken.{ofValue, ofDecision}
 use Rattle.steps.proofs.ChainLaws.{and-true}
 use Rattle.steps.proofs.ReadByKinds.{Past, Others}
 use Rattle.steps.proofs.TimesAsked.{past-more}
+use Rattle.steps.proofs.ReadsFirstPart.{anyKind}
 use Rattle.decryption.specs.declared.ThresholdDecrypt.{ThresholdDecrypt}
 use Rattle.decryption.specs.Decrypt.{handleMessage as handleShare}
 use Rattle.proposal.specs.declared.ProposalState.{ProposalState}
-use Rattle.subset.specs.Words.{countOf, decidedAt, acceptedAt, statusAt, countAt, recordAt, proposalAt, valueAt, arrivalAt, storeProposal, addContribution}
+use Rattle.subset.specs.Words.{decidedAt, acceptedAt, statusAt, countAt, recordAt, proposalAt, valueAt, arrivalAt, storeProposal, addContribution}
 use Rattle.subset.specs.Subset.{contributed, propose as proposeSubset, handleMessage as handleSubset}
 use Rattle.subset.proofs.ProposalStored.{differ, store-word}
 use Rattle.epochwords.specs.declared.SubsetHandlingStrategy.{SubsetHandlingStrategy}
 use Rattle.epoch.specs.declared.MessageContent.{MessageContent}
-use Rattle.epoch.specs.Epoch.{firstContributions, inputCiphertext, propose, handleMessageContent}
+use Rattle.epoch.specs.Epoch.{inputCiphertext, propose, handleMessageContent}
 use Rattle.epoch.proofs.Interface.{Quiet}
-use Rattle.epoch.proofs.Walk.{Inputs, Rules, input-keeps, propose-keeps, content-keeps}
-use Rattle.decryption.proofs.Walk.{handle-keeps as share-keeps}
+use Rattle.epoch.proofs.Walk.{Inputs, Rules, any-rules, input-keeps, propose-keeps, content-keeps}
+use Rattle.decryption.proofs.Walk.{not-five, handle-keeps as share-keeps}
 use Rattle.subset.proofs.Walk.{Rules as Subsets, propose-keeps as propose-subset-keeps, handle-keeps as handle-subset-keeps}
-use Rattle.epoch.proofs.QuietRuns.{quiet-message, quiet-fault, Orderly, Any, anyKind, orderly-inside, orders, ordering}
+use Rattle.epoch.proofs.QuietRuns.{quiet-message, quiet-fault, Orderly, Any, orderly-inside, orders, ordering, ordering-stateless, orders-permit}
 
 -- THE KINDS that the subset reads, and those that decrypting a contribution reads
 abbrev pub subsetKinds : ℕ → Bool
@@ -203,9 +204,6 @@ inputs is more = record {
   invalid = λ p. quiet-fault 4 p 0 refl;
   ciphertext = λ td c u h. tt;
 }
-  where
-    not-five : (k : ℕ) → within 6 7 k ≡ true → eqb k 5 ≡ false
-    not-five k e = ne-eqb k 5 (λ z. omega (arith, leb-true 6 k (and-true (leb 6 k) (leb k 7) e .0)))
 
 module _ (net : NetworkInfo) (proposer : ℕ) where
   pub share-runs : (sender share : ℕ) → Decrypts (handleShare net proposer sender share)
@@ -216,28 +214,7 @@ module _ (net : NetworkInfo) (proposer : ℕ) where
 
 -- THE EPOCH'S TWO CALLS ARE QUIET
 epoch-rules : (n : ℕ) → Rules (orders anyKind) (ordering anyKind Any) (ordering anyKind Any) n (ordering anyKind Any)
-epoch-rules n = record {
-  subset = record {
-    moves = record { reads = λ k e. refl; parts = λ k e. refl; agreed = λ s out h. tt; came = λ s out h. tt; voted = λ s out h. tt };
-    index = λ p l. tt;
-    stored = λ p m w t r i g h. orderly-inside (storeProposal n w p) r (λ s _. tt) (g tt);
-    added = λ p w o i h. tt;
-    decided = λ w h. tt;
-  };
-  handles = record {
-    entries = record { entered = λ p m w t r g h. let k = g tt in record { state = tt; past = k .past; quiet = k .quiet }; dropped = λ w o h. tt };
-    inputs = inputs anyKind (λ k e. refl);
-    reads = refl;
-    unreadable = λ p. quiet-fault 3 p 0 refl;
-    listed = λ i m w t r g h. g tt tt tt;
-    opened = λ p value w u h. tt;
-    accepted = λ p w i h. tt;
-  };
-  finishes = record { late = λ a. quiet-fault 2 a 0 refl; finished = λ p w h. tt; unexpected = λ p w h. tt };
-  emptied = λ m w t r g h. orderly-inside (firstContributions n 0) r (λ w _. tt) (g tt);
-  cut = λ m w t r g h. orderly-inside (firstContributions n (countOf w)) r (λ w _. tt) (g tt);
-  done = λ w h. tt;
-}
+epoch-rules n = any-rules (ordering-stateless anyKind) orders-permit tt tt n
 
 pub quiet-proposed : (net : NetworkInfo) (strategy : SubsetHandlingStrategy) (encrypted : Bool) (w : List ℕ) (p : Tape) → Quiet (propose net strategy encrypted w p .log)
 quiet-proposed net strategy encrypted w p = propose-keeps _ _ _ net _ (epoch-rules _) strategy encrypted refl tt tt w p tt .quiet

@@ -16,7 +16,8 @@ use Rattle.steps.specs.Runs.{Verdict, going, refused, failed, Run, ends, before
 use Rattle.steps.specs.Parts.{isPart, messageKind, faultKind, partEntries, lastOutput, partsFrom, readParts}
 use Rattle.steps.proofs.Parts.{parts-on, parts-off}
 use Rattle.steps.proofs.ReadByKinds.{Past, past-same, past-then, past-ask, past-about, past-parts}
-use Rattle.steps.proofs.Logic.{Terms, Logic}
+use Rattle.steps.proofs.ReadsFirstPart.{anyKind}
+use Rattle.steps.proofs.Logic.{Terms, Permits, Logic, Stateless}
 use Rattle.epoch.proofs.Interface.{fivesAmong, Quiet}
 
 -- LOGS
@@ -85,12 +86,9 @@ pub record Orderly {S A : Type 0} (P : S → Type 0) (is : ℕ → Bool) (p : Ta
   pub past : Past is (p .rest) (r .tape .rest)
   pub quiet : Quiet (r .log)
 
--- a state of which nothing is said, and answers of every kind
+-- a state of which nothing is said
 abbrev pub Any : {S : Type 0} → S → Type 0
 Any s = Unit {0}
-
-abbrev pub anyKind : ℕ → Bool
-anyKind k = true
 
 module _ {S A : Type 0} {P : S → Type 0} {is : ℕ → Bool} where
   pub orderly-ends : {v : Verdict A} {s : S} {p : Tape} → P s → Orderly P is p (ends v s p)
@@ -170,4 +168,19 @@ ordering is P = record {
   parts = λ content proposer n s p e h. orderly-parts is e content proposer s p h;
   spares = λ A n left all s p r e g. g;
   goesOn = λ A B f g h s p r k l m i. orderly-onward r k (l i) (λ a t q. m a t q);
+}
+
+-- of a state of which nothing is said
+pub ordering-stateless : (is : ℕ → Bool) → Stateless (orders is) (λ S. ordering {S = S} is Any)
+ordering-stateless is = record { allows = λ S x y s t h. tt; moves = λ S R A f h s t u p r g i. let k = g tt in record { state = tt; past = k .past; quiet = k .quiet } }
+
+pub orders-permit : Permits (orders anyKind)
+orders-permit = record {
+  reads = λ k. refl;
+  text = refl;
+  parts = λ k e. refl;
+  sends = λ a b. quiet-message 3 a b;
+  faults = λ k a e. quiet-fault k a 0 e;
+  handle = λ b. tt;
+  index = λ i. tt;
 }

@@ -10,16 +10,14 @@ use Rattle.steps.specs.Runs.{Verdict, going, refused, failed}
 use Rattle.steps.proofs.Ranges.{Says, SmallOption, kept-any, small, keeping, kept-inside, below-zeros}
 use Rattle.decryption.specs.declared.ThresholdDecrypt.{ThresholdDecrypt}
 use Rattle.decryption.proofs.Ranges.{InstanceOk, set-ok, rules as combines}
-use Rattle.subset.specs.Words.{recordLength, epochLength, statusAt, decidedAt, countAt, countOf, proposalAt, valueAt}
+use Rattle.subset.specs.Words.{epochLength, statusAt, decidedAt, countAt, countOf, proposalAt, valueAt}
 use Rattle.subset.proofs.Ranges.{limitAt, limit-some, EpochOk, ProposalOk, set-own, field-below, drop-ok, SafeEpoch, rules as subsets}
 use Rattle.epochwords.specs.declared.SubsetHandlingStrategy.{SubsetHandlingStrategy}
 use Rattle.epoch.specs.declared.MessageContent.{MessageContent}
 use Rattle.epoch.specs.declared.MessageContent.the-variants.{Subset, DecryptionShare}
 use Rattle.epochwords.specs.Words.{missing, complete}
 use Rattle.epoch.specs.Epoch.{newEpoch, firstContributions, entryAfter, subsetComplete, proposalDropped, propose, handleMessageContent}
-use Rattle.epochwords.specs.Batch.{outputBatch}
 use Rattle.epoch.proofs.Walk.{Rules, propose-keeps, content-keeps}
-use Rattle.epochwords.proofs.Walk.{Batches, batch-keeps}
 use Rattle.epochwords.proofs.LimitsOfWords.{EntryOk, load-entry-ok, store-entry-ok, accept-ok}
 
 -- a share that comes in a message is a handle
@@ -50,14 +48,6 @@ module _ (n : ℕ) (some : 0 < n) where
   dropped-ok : (w : List ℕ) (p : ℕ) → EpochOk n w → EpochOk n (proposalDropped n w p)
   unfolding proposalDropped
   dropped-ok w p h = set-own n _ (valueAt n p) 0 (set-own n w (proposalAt n p) 0 h (limit-some n _ some)) (limit-some n _ some)
-
--- the batch of an epoch changes no word
-batches : (n : ℕ) → Batches (small n)
-batches n = record { reads = refl; faults = λ p. tt; outputs = λ k a b e. tt }
-
-pub batch-safe : (n epoch : ℕ) → SafeEpoch n (outputBatch n epoch)
-unfolding SmallOption
-batch-safe n epoch w p h o = kept-any (batch-keeps (small n) (keeping n (EpochOk n)) (batches n) (recordLength n) n epoch w p h o tt)
 
 module _ (n : ℕ) (some : 0 < n) (few : n ≤ 16) where
   rules : Rules (small n) (keeping n InstanceOk) (keeping n (EpochOk n)) n (keeping n ProposalOk)

@@ -11,14 +11,14 @@ use Rattle.network.specs.declared.network_info.NetworkInfo.{NetworkInfo}
 use Rattle.steps.specs.Answers.{Tape}
 use Rattle.steps.specs.Steps.{fault}
 use Rattle.steps.specs.Runs.{Verdict, going, refused, failed, Run, ends, before, inside}
-use Rattle.steps.proofs.Logic.{Hand, hand, nothing, Terms, anything, Logic, here, there, test, perhaps, fail, move, put, hear, next, tell}
+use Rattle.steps.proofs.Logic.{Hand, hand, nothing, Terms, anything, Permits, permits-anything, Logic, here, there, test, perhaps, fail, move, put, hear, next, tell, Stateless, free, elsewhere}
 use Rattle.steps.proofs.StateKept.{holding, still}
 use Rattle.decryption.specs.declared.ThresholdDecrypt.{ThresholdDecrypt}
 use Rattle.decryption.specs.Decrypt.{isSender, withCiphertext}
 use Rattle.decryption.proofs.Walk.{Does, plaintext, Combines, any-combines, by-valid, set-keeps, start-keeps, handle-keeps as share-keeps}
 use Rattle.proposal.specs.declared.ProposalState.{ProposalState}
 use Rattle.subset.specs.Words.{countOf, valueAt, contributor}
-use Rattle.subset.proofs.Walk.{Rules as Subsets, propose-keeps as propose-subset-keeps, handle-keeps as handle-subset-keeps}
+use Rattle.subset.proofs.Walk.{Rules as Subsets, any-rules as any-subsets, propose-keeps as propose-subset-keeps, handle-keeps as handle-subset-keeps}
 use Rattle.epochwords.specs.Words.{isComplete, isAccepted, accept, DecryptionState, missing, ongoing, complete, asks, decryptionAt, loadEntry, storeDecryption}
 use Rattle.epochwords.specs.declared.SubsetHandlingStrategy.{SubsetHandlingStrategy}
 use Rattle.epoch.specs.declared.MessageContent.{MessageContent}
@@ -73,6 +73,25 @@ module _ (T : Terms) (D : Logic T ThresholdDecrypt) (L : Logic T (List ℕ)) (N 
     pub emptied : (n : ℕ) (w : List ℕ) (t : Tape) (r : Run (List ℕ) (Unit {0})) → L .Good _ nothing (hand none n) w t r → L .Good _ nothing (hand none n) w t (inside (firstContributions N 0) r)
     pub cut : (n : ℕ) (w : List ℕ) (t : Tape) (r : Run (List ℕ) Bool) → L .Good _ nothing (hand none n) w t r → L .Good _ nothing (hand none n) w t (inside (firstContributions N (countOf w)) r)
     pub done : (w : List ℕ) → L .Step none w none (subsetComplete w)
+
+-- of a property that says nothing of the state
+pub any-rules : {T : Terms} {L : (S : Type 0) → Logic T S} → Stateless T L → Permits T → T .Number 24 → T .Number 25 → (n : ℕ) → Rules T (L ThresholdDecrypt) (L (List ℕ)) n (L ProposalState)
+any-rules {L = L} Z P shared invalid n = record {
+  subset = any-subsets Z P n;
+  handles = record {
+    entries = record { entered = λ p m w t r g. elsewhere Z g; dropped = λ w o. free Z };
+    inputs = record { combines = any-combines (L ThresholdDecrypt) (λ s t. free Z) P shared; number = invalid; invalid = λ p. P .faults 4 p refl; ciphertext = λ td c u. free Z };
+    reads = P .reads 8;
+    unreadable = λ p. P .faults 3 p refl;
+    listed = λ i m w t r g. g (P .index _) (P .handle _);
+    opened = λ p value w u. free Z;
+    accepted = λ p w i. free Z;
+  };
+  finishes = record { late = λ a. P .faults 2 a refl; finished = λ p w. free Z; unexpected = λ p w. free Z };
+  emptied = λ m w t r g. elsewhere Z g;
+  cut = λ m w t r g. elsewhere Z g;
+  done = λ w. free Z;
+}
 
 -- what an epoch may write at Done
 abbrev pub atDone : NetworkInfo → ℕ
@@ -213,7 +232,7 @@ module _ (n : ℕ) (Q : List ℕ → Type 0) (store : (p : ℕ) (d : DecryptionS
   pub handles-hold : ((p : ℕ) (w : List ℕ) → Q w → Q (accept w p)) → Handles anything still holds n
   handles-hold accepts = record {
     entries = entries-hold;
-    inputs = record { combines = any-combines still (λ s u h. tt); number = tt; invalid = λ p. tt; ciphertext = λ td c u h. tt };
+    inputs = record { combines = any-combines still (λ s u h. tt) permits-anything tt; number = tt; invalid = λ p. tt; ciphertext = λ td c u h. tt };
     reads = tt;
     unreadable = λ p. tt;
     listed = λ i m w t r g h. g tt tt h;

@@ -11,7 +11,7 @@ use Rattle.steps.specs.Answers.{Tape}
 use Rattle.steps.specs.Steps.{fault, output}
 use Rattle.steps.specs.Runs.{Run, before}
 use Rattle.steps.specs.Bits.{hasBit}
-use Rattle.steps.proofs.Logic.{hand, nothing, Terms, Logic, here, test, one, perhaps, put, hear, next}
+use Rattle.steps.proofs.Logic.{hand, nothing, Terms, anything, Logic, here, test, one, perhaps, put, hear, next}
 use Rattle.epochwords.specs.Batch.{isRead, readAt, readFrom, entriesFrom, outputBatchIn}
 
 -- what a batch reads and writes
@@ -19,6 +19,9 @@ pub record Batches (T : Terms) : Type 0 where
   pub reads : T .Kind 13
   pub faults : (p : ℕ) → T .Writes (fault 5 p 0)
   pub outputs : (k a b : ℕ) → within 1 2 k ≡ true → T .Writes (output k a b)
+
+pub any-batches : Batches anything
+any-batches = record { reads = tt; faults = λ p. tt; outputs = λ k a b e. tt }
 
 module _ (T : Terms) (L : Logic T (List ℕ)) (R : Batches T) (size : ℕ) where
   read-at-keeps : (p readable n : ℕ) (w : List ℕ) (t : Tape) → L .Good _ nothing (hand none n) w t (readAt size p readable w t)

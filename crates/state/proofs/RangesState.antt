@@ -117,11 +117,6 @@ pub record StateOk (w : List ℕ) (bound : ℕ) (v : List ℕ) : Type 0 where
   pub words : (e : ℕ) → EpochOk (nodes w) (epochWords v e)
   pub lists : (e : ℕ) → countOf (epochWords v e) ≤ mostKept (strategyOf w) (nodes w)
 
--- a higher bound
-pub state-wider : (w : List ℕ) (b c : ℕ) → b ≤ c → (v : List ℕ) → StateOk w b v → StateOk w c v
-state-wider w b c l v h =
-    record { shape = h .shape; same = h .same; epoch = omega (arith, h .epoch); given = h .given; counted = h .counted; rest = h .rest; words = h .words; lists = h .lists }
-
 -- WHAT THE ENGINE WRITES
 module _ (w : List ℕ) (bound : ℕ) (some : 0 < nodes w) (v : List ℕ) (h : StateOk w bound v) where
   -- one of current epoch, has input and fault count
@@ -157,22 +152,10 @@ module _ (w : List ℕ) (bound : ℕ) (some : 0 < nodes w) (v : List ℕ) (h : S
       set-ok faultsAt x (omega arith) (omega arith) (rw (getD-set-other v faultsAt epochAt x 0 (omega arith)) (h .epoch))
       (rw (getD-set-other v faultsAt inputAt x 0 (omega arith)) (h .given)) (omega (arith, set-in faultsAt x (omega arith) (omega arith)))
 
-  -- the state's numbers are those of its creation
-  pub nodes-same : nodes v ≡ nodes w
-  nodes-same = h .shape .nodes
-
-  pub ahead-same : ahead v ≡ ahead w
-  ahead-same = h .shape .ahead
-
+  -- the strategy is that of its creation
   pub strategy-same : strategyOf v ≡ strategyOf w
   unfolding strategyOf
   strategy-same = rw (h .same strategyAt (omega arith))
-
-  pub current-below : currentEpoch v ≤ bound
-  current-below = h .epoch
-
-  pub words-ok : (epoch : ℕ) → EpochOk (nodes w) (epochWords v epoch)
-  words-ok = h .words
 
   -- an epoch
   pub with-ok : (epoch : ℕ) (x : List ℕ) → EpochOk (nodes w) x → countOf x ≤ mostKept (strategyOf w) (nodes w) → StateOk w bound (withEpoch v epoch x)
@@ -202,7 +185,7 @@ module _ (w : List ℕ) (bound : ℕ) (some : 0 < nodes w) (v : List ℕ) (h : S
   pub without-ok : (epoch : ℕ) → StateOk w bound (withoutEpoch v epoch)
   unfolding withoutEpoch
   without-ok epoch =
-      with-ok epoch _ (rw nodes-same (below-zeros (limitAt (nodes w)) (epochLength (nodes w)) (λ i. limit-some (nodes w) i some)))
+      with-ok epoch _ (rw (h .shape .nodes) (below-zeros (limitAt (nodes w)) (epochLength (nodes w)) (λ i. limit-some (nodes w) i some)))
       (omega (arith, zeros-at (epochLength (nodes v)) countAt))
 
 -- THE RULE AND THESE. A state that keeps the rule

@@ -22,7 +22,7 @@ use Rattle.steps.specs.Parts.{isPart, messageKind, faultKind, partEntrie
 use Rattle.steps.proofs.ChainLaws.{and-true, on-bounds, link-up, link-end}
 use Rattle.steps.proofs.Parts.{parts-on, parts-off}
 use Rattle.steps.proofs.Ranges.{by-test}
-use Rattle.steps.proofs.Logic.{Hand, hand, nothing, given, anything, Logic}
+use Rattle.steps.proofs.Logic.{Hand, hand, nothing, given, anything, Logic, Stateless}
 
 -- a run from tape p that writes at most one entry for each record it reads, and `more` besides
 pub record Bounded {S A : Type 0} (more : ℕ) (p : Tape) (r : Run S A) : Type 0 where
@@ -171,6 +171,9 @@ counting S = record {
   spares = λ A n left all s p r e g. spends-spares n left all p r e g;
   goesOn = λ A B f g h s p r k b m. spends-onward f g h p r k b m;
 }
+
+pub counting-stateless : Stateless anything counting
+counting-stateless = record { allows = λ S x y s t. tt; moves = λ S R A f h s t u p r g. record { spent = g .spent } }
 
 -- THE CHAIN OF A TABLE. Its indexes rise from above 0, so that it has fewer records than the table
 walk-short : (n : ℕ) (t : List ℕ) (i j : ℕ) → (i ≡ 0) ⊎ (j < i) → j < length t / 4 → length (walk n t i) + suc j ≤ length t / 4

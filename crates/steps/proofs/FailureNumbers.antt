@@ -6,7 +6,7 @@ use Rattle.steps.specs.declared.reader.Answer.{Answer}
 use Rattle.steps.specs.declared.reader.Answer.the-variants.{Got, Refused}
 use Rattle.steps.specs.Answers.{Tape, Asked, ask, askAbout}
 use Rattle.steps.specs.Runs.{Verdict, going, refused, failed, Run, onwardAs, onward, heardAs, heard}
-use Rattle.steps.proofs.Logic.{Terms, Logic}
+use Rattle.steps.proofs.Logic.{Terms, Permits, Logic, Stateless}
 
 -- the number of a failure is one of those that are meant
 abbrev pub Meant : {A : Type 0} → (ℕ → Bool) → Verdict A → Type 0
@@ -41,6 +41,9 @@ only-onward {A = A} {ok = ok} r {k} h f = go (r .verdict) (h .fails)
 abbrev pub numbers : (ℕ → Bool) → Terms
 numbers ok = record { Kind = λ k. Unit {0}; Text = Unit {0}; Parts = Unit {0}; Writes = λ e. Unit {0}; Number = λ n. ok n ≡ true; Handle = λ b. Unit {0}; Index = λ i. Unit {0} }
 
+pub numbers-permit : (ok : ℕ → Bool) → Permits (numbers ok)
+numbers-permit ok = record { reads = λ k. tt; text = tt; parts = tt; sends = λ a b. tt; faults = λ k a e. tt; handle = λ b. tt; index = λ i. tt }
+
 abbrev pub failing : (ok : ℕ → Bool) (S : Type 0) → Logic (numbers ok) S
 failing ok S = record {
   Good = λ A f h s p r. Only ok r;
@@ -56,3 +59,6 @@ failing ok S = record {
   spares = λ A n left all s p r e g. g;
   goesOn = λ A B f g h s p r k l m. only-onward r l m;
 }
+
+pub failing-stateless : (ok : ℕ → Bool) → Stateless (numbers ok) (failing ok)
+failing-stateless ok = record { allows = λ S x y s t. tt; moves = λ S R A f h s t u p r g. record { fails = g .fails } }

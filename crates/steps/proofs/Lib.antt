@@ -5,10 +5,10 @@ pub mod RunLaws
 pub mod RunsInParts
 pub mod AfterRun
 pub mod Parts
-pub mod ReadsFirstPart
 pub mod TableCheck
 pub mod TakenFromChain
 pub mod ReadByKinds
+pub mod ReadsFirstPart
 pub mod TimesAsked
 pub mod FirstRunCounts
 pub mod SecondRunWrites

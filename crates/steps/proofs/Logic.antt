@@ -6,12 +6,13 @@ use mathlib.Core.List.{List, [], _∷_, _++_}
 use mathlib.Core.Bool.{Bool, true, false, cond}
 use mathlib.Core.Option.{Option, none, some}
 use native.Mathlib.Omega.{arith}
+use lib.Dec.{eqb}
 use Rattle.steps.specs.declared.reader.Content.{Content}
 use Rattle.steps.specs.declared.reader.Output.{Output}
 use Rattle.steps.specs.declared.reader.Output.the-variants.{Missing, Value}
 use Rattle.steps.specs.Answers.{Tape, ask, askAbout}
-use Rattle.steps.specs.Steps.{Entry}
-use Rattle.steps.specs.Runs.{going, failed, Run, ends, before, onward, heard}
+use Rattle.steps.specs.Steps.{Entry, message, fault}
+use Rattle.steps.specs.Runs.{going, failed, Run, ends, before, onward, heard, inside}
 use Rattle.steps.specs.Parts.{readParts}
 
 -- WHAT A RUN HAS IN HAND: a handle that it was told and has not stored, and how many entries it may write besides one for each answer to come
@@ -48,6 +49,19 @@ about index = record { Kind = λ k. Unit {0}; Text = Unit {0}; Parts = Unit {0};
 
 abbrev pub anything : Terms
 anything = about (λ i. Unit {0})
+
+-- terms under which any answer may be read, any index and handle will do, and whatever an epoch writes besides its batch may be written
+pub record Permits (T : Terms) : Type 0 where
+  pub reads : (k : ℕ) → T .Kind k
+  pub text : T .Text
+  pub parts : T .Parts
+  pub sends : (a b : ℕ) → T .Writes (message 3 a b)
+  pub faults : (k a : ℕ) → eqb k 5 ≡ false → T .Writes (fault k a 0)
+  pub handle : (b : ℕ) → T .Handle b
+  pub index : (i : ℕ) → T .Index i
+
+pub permits-anything : Permits anything
+permits-anything = record { reads = λ k. tt; text = tt; parts = tt; sends = λ a b. tt; faults = λ k a e. tt; handle = λ b. tt; index = λ i. tt }
 
 -- THE RULES, for runs of the state S
 pub record Logic (T : Terms) (S : Type 0) : Type 1 where
@@ -122,3 +136,16 @@ module _ {T : Terms} {S : Type 0} (L : Logic T S) where
       → ((m : ℕ) → n - 1 ≤ m → L .Good A f (hand x m) s p (before l r)) → L .Good A f (hand x n) s p (before (cond b (e ∷ []) [] ++ l) r)
   perhaps true n e l s p r h w g = one n e s p _ h w (g (n - 1) (omega arith))
   perhaps false n e l s p r h w g = g n (omega arith)
+
+-- A PROPERTY THAT SAYS NOTHING OF THE STATE, as a logic of every state: each step is allowed, and what holds of a run holds of a run of another state
+-- that has its verdict, its tape and its log
+pub record Stateless (T : Terms) (L : (S : Type 0) → Logic T S) : Type 1 where
+  pub allows : (S : Type 0) (x y : Option ℕ) (s t : S) → L S .Step x s y t
+  pub moves : (S R A : Type 0) (f : A → Hand) (h : Hand) (s : S) (t u : R) (p : Tape) (r : Run S A) → L S .Good A f h s p r → L R .Good A f h t p (inside (λ _. u) r)
+
+module _ {T : Terms} {L : (S : Type 0) → Logic T S} (Z : Stateless T L) where
+  pub free : {S : Type 0} {x y : Option ℕ} {s t : S} → L S .Step x s y t
+  free = Z .allows _ _ _ _ _
+
+  pub elsewhere : {S R A : Type 0} {f : A → Hand} {h : Hand} {s : S} {t u : R} {p : Tape} {r : Run S A} → L S .Good A f h s p r → L R .Good A f h t p (inside (λ _. u) r)
+  elsewhere g = Z .moves _ _ _ _ _ _ _ _ _ _ g

@@ -127,10 +127,6 @@ module _ {S A : Type 0} {P : S → Type 0} {Q : A → Type 0} where
   pub kept-before : {l : List Entry} {r : Run S A} → Kept P Q r → Kept P Q (record { state = r .state; verdict = r .verdict; tape = r .tape; log = l })
   kept-before k = record { state = k .state; tape = k .tape; value = k .value }
 
-  pub kept-cond : (x : Bool) (r s : Run S A) → (x ≡ true → Kept P Q r) → (x ≡ false → Kept P Q s) → Kept P Q (cond x r s)
-  kept-cond true r s f g = f refl
-  kept-cond false r s f g = g refl
-
   -- after an answer, whose b is small
   heard-kept : (q : Asked) (s : S) (k : ℕ → ℕ → Tape → Run S A) → P s → AllSmall (q .tape .rest)
       → ((a b : ℕ) → q .answer ≡ Got a b → Kept P Q (k a b (q .tape))) → Kept P Q (heard q s k)
@@ -170,22 +166,17 @@ module _ {S A : Type 0} {P : S → Type 0} {Q : A → Type 0} where
       let u = for-heard (λ r. eqb (r .kind) kind && eqb (r .b) who) (λ r e z. eqb-false kind 16 n (sym (eqb-true _ _ (and-true (eqb (r .kind) kind) _ e .0)) ∙ z)) p (p .rest) o o in
       heard-kept (askAbout p kind who) s k h (u .tape) (λ a b e. f a b _ (u .small a b e) (u .tape))
 
--- Rust's `?`: a refusal or failure stays, with the wider R
-module _ {S A B : Type 0} {P : S → Type 0} {R : S → Type 0} {Q : A → Type 0} {W : B → Type 0} where
-  pub kept-then : (r : Run S A) (k : A → S → Tape → Run S B) → ((s : S) → P s → R s) → Kept P Q r
-      → ((a : A) (s : S) (q : Tape) → P s → AllSmall (q .rest) → Q a → Kept R W (k a s q)) → Kept R W (onward r k)
-  unfolding onward onwardAs Says
-  kept-then r k g h f = go (r .verdict) (h .value)
-    where
-      go : (v : Verdict A) → Says Q v → Kept R W (onwardAs v r k)
-      go (going a) u = kept-before (f a (r .state) (r .tape) (h .state) (h .tape) u)
-      go refused u = record { state = g _ (h .state); tape = h .tape; value = tt }
-      go (failed n) u = record { state = g _ (h .state); tape = h .tape; value = tt }
-
+-- Rust's `?`: a refusal or failure stays
 module _ {S A B : Type 0} {P : S → Type 0} {Q : A → Type 0} {W : B → Type 0} where
   pub kept-onward : (r : Run S A) (k : A → S → Tape → Run S B) → Kept P Q r
       → ((a : A) (s : S) (q : Tape) → P s → AllSmall (q .rest) → Q a → Kept P W (k a s q)) → Kept P W (onward r k)
-  kept-onward r k h f = kept-then r k (λ s p. p) h f
+  unfolding onward onwardAs Says
+  kept-onward r k h f = go (r .verdict) (h .value)
+    where
+      go : (v : Verdict A) → Says Q v → Kept P W (onwardAs v r k)
+      go (going a) u = kept-before (f a (r .state) (r .tape) (h .state) (h .tape) u)
+      go refused u = record { state = h .state; tape = h .tape; value = tt }
+      go (failed n) u = record { state = h .state; tape = h .tape; value = tt }
 
 -- a run of a small state, as one of the state that it is a part of
 pub kept-inside : {S T A : Type 0} {P : S → Type 0} {R : T → Type 0} {Q : A → Type 0} (put : T → S) (r : Run T A)

@@ -5,24 +5,18 @@ use Rattle.network.specs.declared.network_info.NetworkInfo.{NetworkInfo}
 use Rattle.steps.specs.declared.reader.Content.{Content}
 use Rattle.steps.specs.Answers.{Tape}
 use Rattle.steps.specs.Runs.{Run}
-use Rattle.steps.proofs.Logic.{anything}
-use Rattle.steps.proofs.Bounded.{Bounded, spends-bounded, counting}
+use Rattle.steps.proofs.Logic.{anything, permits-anything}
+use Rattle.steps.proofs.Bounded.{Bounded, spends-bounded, counting, counting-stateless}
 use Rattle.proposal.specs.declared.ProposalState.{ProposalState}
 use Rattle.subset.specs.Subset.{propose, handleMessage}
-use Rattle.subset.proofs.Walk.{Rules, propose-keeps, handle-keeps}
+use Rattle.subset.proofs.Walk.{Rules, any-rules, propose-keeps, handle-keeps}
 
 -- an operation on an epoch's words that writes at most one entry for each record it reads, and `more` besides
 abbrev pub Writes : {A : Type 0} → ℕ → (List ℕ → Tape → Run (List ℕ) A) → Type 0
 Writes more k = (w : List ℕ) (p : Tape) → Bounded more p (k w p)
 
-pub rules : (n : ℕ) → Rules anything (counting ProposalState) (counting (List ℕ)) n
-rules n = record {
-  moves = record { reads = λ k e. tt; parts = tt; agreed = λ s out. tt; came = λ s out. tt; voted = λ s out. tt };
-  index = λ p l. tt;
-  stored = λ p m w t r i g. record { spent = g .spent };
-  added = λ p w o i. tt;
-  decided = λ w. tt;
-}
+rules : (n : ℕ) → Rules anything (counting ProposalState) (counting (List ℕ)) n
+rules n = any-rules counting-stateless permits-anything n
 
 module _ (net : NetworkInfo) (error : ℕ) where
   pub propose-writes : Writes 0 (propose net error)

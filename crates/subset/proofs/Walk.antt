@@ -14,7 +14,7 @@ use Rattle.steps.specs.declared.reader.Content.the-variants.{Broadcast, Agreeme
 use Rattle.network.specs.Network.{isValidator, numCorrect}
 use Rattle.steps.specs.Answers.{Tape}
 use Rattle.steps.specs.Runs.{Run, inside}
-use Rattle.steps.proofs.Logic.{hand, nothing, Terms, Logic, here, there, test, move, next}
+use Rattle.steps.proofs.Logic.{hand, nothing, Terms, Permits, Logic, here, there, test, move, next, Stateless, free, elsewhere}
 use Rattle.proposal.specs.declared.ProposalState.{ProposalState}
 use Rattle.subset.specs.Words.{isDecided, decidedAt, loadProposal, storeProposal}
 use Rattle.proposal.proofs.Walk.{contribution, Moves, agreement-keeps, broadcast-keeps}
@@ -29,6 +29,16 @@ pub record Rules (T : Terms) (P : Logic T ProposalState) (L : Logic T (List ℕ)
       → P .Good _ contribution (hand none n) (loadProposal N w p) t r → L .Good _ contribution (hand none n) w t (inside (storeProposal N w p) r)
   pub added : (p : ℕ) (w : List ℕ) (o : Option ℕ) → T .Index p → L .Step o w none (contributed N w p o)
   pub decided : (w : List ℕ) → L .Step none w none (set w decidedAt 1)
+
+-- of a property that says nothing of the state
+pub any-rules : {T : Terms} {L : (S : Type 0) → Logic T S} → Stateless T L → Permits T → (n : ℕ) → Rules T (L ProposalState) (L (List ℕ)) n
+any-rules Z P n = record {
+  moves = record { reads = λ k e. P .reads k; parts = P .parts; agreed = λ s out. free Z; came = λ s out. free Z; voted = λ s out. free Z };
+  index = λ p l. P .index p;
+  stored = λ p m w t r i g. elsewhere Z g;
+  added = λ p w o i. free Z;
+  decided = λ w. free Z;
+}
 
 -- THE SUBSET
 module _ (T : Terms) (P : Logic T ProposalState) (L : Logic T (List ℕ)) (net : NetworkInfo) (R : Rules T P L (net .«num_nodes»)) (error : ℕ) (number : T .Number error) where

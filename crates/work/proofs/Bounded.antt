@@ -1,35 +1,32 @@
 -- HOW LONG THE LOG OF A CALL IS: at most 1,552 entries, so that no list of a step is counted past its limit of 2^32. Assumes nothing.
-use Prim.Native.Nat.{ℕ, zero, suc, _+_, _*_, _/_, _≤_, _<_}
+use Prim.Native.Nat.{ℕ, _+_, _*_, _/_, _≤_, _<_}
 use mathlib.Core.Path.{_≡_, ap}
 use mathlib.Core.List.{List}
-use mathlib.Core.Bool.{Bool, true, false}
-use mathlib.Core.Option.{none}
+use mathlib.Core.Bool.{true}
 use native.Mathlib.Omega.{arith}
 use native.Mathlib.Nat.{mul-le-mul-right, mul-le-mul-left}
 use lib.ListN.{length}
-use lib.Dec.{eqb, ltb}
-use Rattle.network.specs.Network.{isValidator}
+use lib.Dec.{ltb}
 use Rattle.steps.specs.Table.{tableOk}
 use Rattle.steps.specs.Answers.{Tape, tapeOf}
 use Rattle.steps.specs.Steps.{Entry, out, putAll, counting, writing, records as recordsOf, putHeader, written}
-use Rattle.steps.specs.Runs.{going, Run, ends, onward, inside}
-use Rattle.steps.proofs.Bounded.{Bounded, Spends, spends-bounded, bounded-spends, counting as countingRuns, chainLimit, table-bounded}
-use Rattle.steps.proofs.Logic.{hand, nothing, here, there, test, one}
+use Rattle.steps.specs.Runs.{Run}
+use Rattle.steps.proofs.Bounded.{Bounded, bounded-wider, spends-bounded, bounded-spends, counting-stateless, chainLimit, table-bounded}
 use Rattle.steps.proofs.FirstRunCounts.{exactOf, counts-exact, records-counted}
 use Rattle.steps.proofs.SecondRunWrites.{finished}
 use Rattle.epoch.specs.declared.MessageContent.{MessageContent}
-use Rattle.epochwords.specs.Words.{isVacant}
-use Rattle.epochwords.specs.Batch.{isReady, outputBatch}
-use Rattle.epoch.proofs.Bounded.{batch-writes, propose-writes, content-writes}
+use Rattle.epochwords.proofs.Walk.{any-batches}
+use Rattle.epoch.proofs.Bounded.{propose-writes, content-writes}
 use Rattle.subset.proofs.Bounded.{Writes}
-use Rattle.state.specs.State.{nodes, ahead, currentEpoch, netOf, epochWords, stateOk}
+use Rattle.state.specs.State.{nodes, ahead, currentEpoch, netOf, stateOk}
 use Rattle.work.specs.declared.honey_badger.Call.{Call}
 use Rattle.work.specs.declared.honey_badger.Call.the-variants.{Propose, Message}
 use Rattle.work.specs.HoneyBadger.{propose, handleMessage}
-use Rattle.work.specs.Work.{built, epochCall, batchesFrom, Worked, worked, beside, workIn, proposeWork, messageWork}
+use Rattle.work.specs.Work.{workIn, proposeWork, messageWork}
 use Rattle.work.specs.Shape.{callWork}
 use Rattle.state.proofs.RangeCode.{ok-words}
-use Rattle.work.proofs.RunBesideState.{propose-apart, message-apart}
+use Rattle.work.proofs.Walk.{behind, any-works, work-keeps}
+use Rattle.work.proofs.RunBesideState.{by-propose-apart, by-message-apart}
 
 -- WHAT A CALL WRITES besides one entry for each record that it reads. An epoch: at most 16 × 16 faults 2 and one fault more
 abbrev pub epochLimit : ℕ
@@ -43,88 +40,38 @@ batchLimit = 17
 abbrev pub callLimit : ℕ
 callLimit = epochLimit + 16 * batchLimit
 
--- with m entries allowed at first
-abbrev Spending : {S A : Type 0} → ℕ → Tape → Run S A → Type 0
-Spending m p r = Spends nothing (hand none m) p r
-
-built-spends : (n m : ℕ) (x : List ℕ) (p : Tape) → Spending m p (built n x p)
-unfolding built
-built-spends n m x p =
-    let L = countingRuns (List ℕ) in
-    test L {s = x} (isVacant x)
-    (λ _. L .asks _ _ none m 1 x p _ tt (λ a b q _. test L {s = x} (eqb a 0) (λ _. L .fails _ _ _ 20 x q tt) (λ _. there L tt x _ q tt)))
-    (λ _. here L tt x p)
-
-epoch-spends : (n m : ℕ) (body : List ℕ → Tape → Run (List ℕ) (Unit {0})) → ((x : List ℕ) (q : Tape) → Spending m q (body x q)) → (x : List ℕ) (p : Tape) → Spending m p (epochCall n body x p)
-unfolding epochCall
-epoch-spends n m body f x p =
-    let L = countingRuns (List ℕ) in
-    L .goesOn _ _ (λ _. hand none m) _ _ x p _ _ (L .spares _ 0 m m x p _ (omega arith) (built-spends n 0 x p)) (λ _ x q. f x q)
-
-batches-spend : (n : ℕ) → n ≤ 16 → (words : ℕ → List ℕ) (m e : ℕ) (p : Tape) → Spending (m * batchLimit) p (batchesFrom n words m e p)
-unfolding batchesFrom
-batches-spend n few words zero e p = here (countingRuns ℕ) tt e p
-batches-spend n few words (suc m) e p = go (isReady n (words e)) (λ d q. batches-spend n few words m d q)
-  where
-    first : Spends {S = ℕ} (λ _. hand none (m * batchLimit)) (hand none (suc m * batchLimit)) p (inside (λ _. e) (outputBatch n e (words e) p))
-    first =
-        countingRuns ℕ .spares _ (1 + n) (m * batchLimit) (suc m * batchLimit) e p _ (omega arith)
-        (record { spent = bounded-spends (1 + n) p _ (batch-writes n e (words e) p) .spent })
-
-    go : (x : Bool) → ((d : ℕ) (q : Tape) → Spending (m * batchLimit) q (batchesFrom n words m d q)) → Spending {S = ℕ} {A = Unit {0}} (suc m * batchLimit) p
-        (elim x [
-          | true ↦ onward (inside (λ _. e) (outputBatch n e (words e) p)) (λ _ e q. batchesFrom n words m (e + 1) q)
-          | false ↦ ends (going tt) e p
-        ])
-    go true f = countingRuns ℕ .goesOn _ _ (λ _. hand none (m * batchLimit)) _ _ e p _ _ first (λ _ d q. f (d + 1) q)
-    go false f = here (countingRuns ℕ) tt e p
-
-epoch-limit : (n : ℕ) → n ≤ 16 → 1 + n * n ≤ epochLimit
-epoch-limit n l = omega (arith, mul-le-mul-right n l, mul-le-mul-left 16 l)
-
 -- THE LOG of a call with a state in range and an answer table that is not malformed
 abbrev pub logLimit : ℕ
 logLimit = chainLimit + callLimit
 
 module _ (w : List ℕ) (ok : stateOk w ≡ true) where
   -- a call of one epoch, and the batches that go out behind it
-  work-spends : (e : ℕ) (body : List ℕ → Tape → Run (List ℕ) (Unit {0})) → Writes (1 + nodes w * nodes w) body → (p : Tape) → Spending callLimit p (workIn w e body p)
-  unfolding workIn
-  work-spends e body f p =
+  call-limit : (1 + nodes w * nodes w) + behind w ≤ callLimit
+  call-limit =
       let h = ok-words w ok in
-      let L = countingRuns Worked in
-      let c = epoch-spends (nodes w) (1 + nodes w * nodes w) body (λ x q. bounded-spends _ q _ (f x q)) (epochWords w e) p in
-      L .goesOn _ _ (λ _. hand none (16 * batchLimit)) _ _ (worked (epochWords w e) 0) p _ _
-      (L .spares _ (1 + nodes w * nodes w) (16 * batchLimit) callLimit (worked (epochWords w e) 0) p _ (omega (arith, epoch-limit (nodes w) (h .few))) (record { spent = c .spent }))
-      (λ _ s q. L .spares _ ((ahead w + 1) * batchLimit) 0 (16 * batchLimit) s q _ (omega (arith, h .near))
-      (record { spent = batches-spend (nodes w) (h .few) (beside w e (s .words)) (ahead w + 1) (s .next) q .spent }))
+      omega (arith, h .near, mul-le-mul-right (nodes w) (h .few), mul-le-mul-left 16 (h .few), mul-le-mul-right (ahead w + 1) (h .few))
 
-  call-spends : (call : Call) (epoch : ℕ) (p : Tape) → Spending callLimit p (callWork call epoch w p)
-  unfolding netOf
-  call-spends Propose epoch p = work-spends epoch _ (propose-writes _ _ _) p
-  call-spends (Message sender proposer content) epoch p = work-spends epoch _ (content-writes _ _ _ sender proposer content) p
+  work-bounded : (e : ℕ) (body : List ℕ → Tape → Run (List ℕ) (Unit {0})) → Writes (1 + nodes w * nodes w) body → (p : Tape) → Bounded callLimit p (workIn w e body p)
+  work-bounded e body f p =
+      bounded-wider _ callLimit p _ call-limit (spends-bounded _ _ p _
+      (work-keeps _ _ _ _ w e (any-works counting-stateless tt tt any-batches w e) (1 + nodes w * nodes w) body (λ x q. bounded-spends _ q _ (f x q)) p))
 
   call-bounded : (call : Call) (epoch : ℕ) (p : Tape) → Bounded callLimit p (callWork call epoch w p)
-  call-bounded call epoch p = spends-bounded _ _ p _ (call-spends call epoch p)
+  unfolding netOf
+  call-bounded Propose epoch p = work-bounded epoch _ (propose-writes _ _ _) p
+  call-bounded (Message sender proposer content) epoch p = work-bounded epoch _ (content-writes _ _ _ sender proposer content) p
 
   -- an observer's propose runs no epoch
   propose-bounded : (p : Tape) → Bounded callLimit p (propose w p)
   unfolding proposeWork
-  propose-bounded p =
-      let L = countingRuns (List ℕ) in
-      rw (propose-apart w ok p)
-      (spends-bounded _ _ p _
-      (test L {s = w} (isValidator (netOf w)) (λ _. record { spent = call-spends Propose (currentEpoch w) p .spent }) (λ _. here L tt w p)))
+  propose-bounded p = by-propose-apart w ok p (Bounded callLimit p) (record { short = call-bounded Propose (currentEpoch w) p .short }) (record { short = omega arith })
 
   -- nor does a message beyond the look-ahead, which writes fault 1, or a late one
   message-bounded : (sender epoch proposer : ℕ) (content : MessageContent) (p : Tape) → Bounded callLimit p (handleMessage sender epoch proposer content w p)
   unfolding messageWork
   message-bounded sender epoch proposer content p =
-      let L = countingRuns (List ℕ) in
-      rw (message-apart w ok p sender epoch proposer content)
-      (spends-bounded _ _ p _
-      (test L {s = w} (ltb (currentEpoch w + ahead w) epoch) (λ _. one L callLimit _ w p _ (omega arith) tt (here L tt w p))
-      (λ _. test L {s = w} (ltb epoch (currentEpoch w)) (λ _. here L tt w p) (λ _. record { spent = call-spends (Message sender proposer content) epoch p .spent }))))
+      by-message-apart w ok p sender epoch proposer content (Bounded callLimit p) (λ _ _. record { short = call-bounded (Message sender proposer content) epoch p .short })
+      (record { short = omega arith }) (record { short = omega arith })
 
   module _ (answers : List ℕ) (good : tableOk (nodes w) answers ≡ true) where
     pub call-log : (call : Call) (epoch : ℕ) → length (callWork call epoch w (tapeOf answers) .log) ≤ logLimit

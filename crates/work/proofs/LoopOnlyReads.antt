@@ -10,7 +10,8 @@ use Rattle.epochwords.specs.Batch.{isReady, outputBatch}
 use Rattle.state.specs.State.{nodes, ahead, currentEpoch, epochWords, withEpoch, stateOk}
 use Rattle.work.specs.HoneyBadger.{updateEpoch, inEpoch, tryOutputBatches, skipToEpoch}
 use Rattle.work.specs.Work.{batchesFrom}
-use Rattle.work.proofs.FailureNumbers.{Only, only-onward, only-batch}
+use Rattle.steps.proofs.FailureNumbers.{Only, failing-stateless}
+use Rattle.work.proofs.Walk.{any-turns, batches-keep}
 use Rattle.work.proofs.Skips.{skip-stays}
 use Rattle.state.proofs.Window.{Shaped, with-own}
 use Rattle.work.proofs.Updates.{update-shaped, update-current, update-kept}
@@ -19,12 +20,12 @@ use Rattle.work.proofs.ClearingIsSkipping.{skip-update}
 use Rattle.subset.specs.Words.{recordLength}
 use Rattle.steps.proofs.Logic.{anything}
 use Rattle.steps.proofs.StateKept.{holding}
-use Rattle.epochwords.proofs.Walk.{batch-keeps}
+use Rattle.epochwords.proofs.Walk.{any-batches, batch-keeps}
 
 -- a batch changes no word of its epoch
 pub same-batch : (n e : ℕ) (x : List ℕ) (t : Tape) → outputBatch n e x t .state ≡ x
 same-batch n e x t =
-    batch-keeps anything (holding (λ y. y ≡ x) (λ i. Unit {0})) (record { reads = tt; faults = λ p. tt; outputs = λ k a b e. tt }) (recordLength n) n e x t refl
+    batch-keeps anything (holding (λ y. y ≡ x) (λ i. Unit {0})) any-batches (recordLength n) n e x t refl
 
 -- BATCHES. Each that goes out moves the run on by one epoch
 pub record Between (first last : ℕ) (r : Run ℕ (Unit {0})) : Type 0 where
@@ -62,14 +63,7 @@ module _ (n : ℕ) (words : ℕ → List ℕ) where
 
   -- and the loop does not fail
   pub batches-never-fail : (m e : ℕ) (p : Tape) → Only (λ _. false) (batchesFrom n words m e p)
-  unfolding batchesFrom
-  batches-never-fail zero e p = record { fails = tt }
-  batches-never-fail (suc m) e p =
-      go (isReady n (words e)) (only-onward _ (record { fails = only-batch (λ _. false) n e (words e) p .fails }) (λ _ e q. batches-never-fail m (e + 1) q))
-    where
-      go : (t : Bool) {x : Run ℕ (Unit {0})} → Only (λ _. false) x → Only {S = ℕ} {A = Unit {0}} (λ _. false) (elim t [ true ↦ x | false ↦ ends (going tt) e p ])
-      go true h = h
-      go false h = record { fails = tt }
+  batches-never-fail m e p = batches-keep _ _ _ n words (any-turns (failing-stateless (λ _. false)) (record { reads = tt; faults = λ p. tt; outputs = λ k a b e. tt }) words) m e p
 
 -- THE LOOP, from the current epoch on, over any `words` that are the state's in the window
 module _ (n f : ℕ) (words : ℕ → List ℕ) where

@@ -16,6 +16,9 @@ use Rattle.steps.specs.Runs.{Verdict, going, refused, failed, Run, ends, before
 use Rattle.network.specs.declared.network_info.NetworkInfo.{NetworkInfo}
 use Rattle.network.specs.Network.{isValidator}
 use Rattle.steps.specs.Steps.{fault}
+use Rattle.steps.proofs.Logic.{anything, either}
+use Rattle.steps.proofs.StateKept.{holding}
+use Rattle.steps.proofs.FailureNumbers.{only-number}
 use Rattle.steps.proofs.RunLaws.{onward-at}
 use Rattle.steps.proofs.RunsInParts.{onward-assoc, onward-inside}
 use Rattle.subset.specs.Words.{epochLength}
@@ -30,45 +33,37 @@ use Rattle.work.specs.Work.{built, epochCall, batchesFrom, Worked, worke
 use Rattle.rings.proofs.Places.{same-place}
 use Rattle.state.proofs.Window.{Shaped, with-own, net-same, strategy-same, encrypted-same, words-long, with-head, with-shaped, with-twice, with-same, with-other, set-shaped, set-words}
 use Rattle.state.proofs.RangesState.{shaped}
+use Rattle.work.proofs.Walk.{Builds, built-keeps as built-walk, call-keeps as call-walk}
 use Rattle.work.proofs.Skips.{skip-stays, skip-head, skipped}
-use Rattle.work.proofs.LoopOnlyReads.{batches-apart, batches-never-fail}
+use Rattle.work.proofs.LoopOnlyReads.{next-between, batches-apart, batches-never-fail}
 
 -- ONE EPOCH's instances are built in its own words
 module _ (n : ℕ) (x : List ℕ) (p : Tape) where
   -- what holds of the words and of new ones holds after it
-  pub built-keeps : (P : List ℕ → Type 0) → P x → P (newEpoch n) → P (built n x p .state)
-  unfolding built heard heardAs
-  built-keeps P old new = go (isVacant x) (ask p 1 .answer)
-    where
-      q : Tape
-      q = ask p 1 .tape
+  module _ (P : List ℕ → Type 0) (old : P x) (new : P (newEpoch n)) where
+    builds : Builds anything (holding P (λ i. Unit {0})) n
+    builds = record { reads = tt; number = tt; new = λ y h. new }
 
-      pick : (t : Bool) → P (cond t (ends {A = Unit {0}} (failed 20) x q) (ends (going tt) (newEpoch n) q) .state)
-      pick true = old
-      pick false = new
+    pub built-keeps : P (built n x p .state)
+    built-keeps = built-walk _ _ n builds 0 x p old
 
-      go : (t : Bool) (y : Answer)
-          → P (cond t (heardAs {A = Unit {0}} y x q (λ a b q. cond (eqb a 0) (ends (failed 20) x q) (ends (going tt) (newEpoch n) q))) (ends (going tt) x p) .state)
-      go true (Got a b) = pick (eqb a 0)
-      go true Refused = old
-      go false y = old
+    -- and then its call runs
+    pub call-keeps : (body : List ℕ → Tape → Run (List ℕ) (Unit {0})) → ((y : List ℕ) (q : Tape) → P y → P (body y q .state)) → P (epochCall n body x p .state)
+    call-keeps body f = call-walk _ _ n builds 0 body f x p old
 
-  built-full : length x ≡ epochLength n → length (built n x p .state) ≡ epochLength n
-  unfolding newEpoch
-  built-full full = built-keeps (λ y. length y ≡ epochLength n) full (length-set (replicate (epochLength n) 0) 0 1 ∙ length-replicate (epochLength n) 0)
+  -- all words of an epoch are there after building, and after a call that leaves as many as it had
+  module _ (full : length x ≡ epochLength n) where
+    new-full : length (newEpoch n) ≡ epochLength n
+    unfolding newEpoch
+    new-full = length-set (replicate (epochLength n) 0) 0 1 ∙ length-replicate (epochLength n) 0
 
-  -- and then its call runs, which leaves as many words as it had
-  pub call-full : (body : List ℕ → Tape → Run (List ℕ) (Unit {0})) → ((y : List ℕ) (q : Tape) → length (body y q .state) ≡ length y) → length x ≡ epochLength n
-      → length (epochCall n body x p .state) ≡ epochLength n
-  unfolding epochCall onward onwardAs
-  call-full body sized full = go (built n x p .verdict)
-    where
-      go : (t : Verdict (Unit {0})) → length (onwardAs t (built n x p) (λ _ y q. body y q) .state) ≡ epochLength n
-      go (going _) = sized (built n x p .state) (built n x p .tape) ∙ built-full full
-      go refused = built-full full
-      go (failed _) = built-full full
+    pub built-full : length (built n x p .state) ≡ epochLength n
+    built-full = built-keeps (λ y. length y ≡ epochLength n) full new-full
 
-mut-inside : (n f : ℕ) (w : List ℕ) → Shaped n f w → (e : ℕ) (p : Tape) → epochStateMut e w p ≡ inside (withEpoch w e) (built n (epochWords w e) p)
+    pub call-full : (body : List ℕ → Tape → Run (List ℕ) (Unit {0})) → ((y : List ℕ) (q : Tape) → length (body y q .state) ≡ length y) → length (epochCall n body x p .state) ≡ epochLength n
+    call-full body sized = call-keeps (λ y. length y ≡ epochLength n) full new-full body (λ y q h. sized y q ∙ h)
+
+pub mut-inside : (n f : ℕ) (w : List ℕ) → Shaped n f w → (e : ℕ) (p : Tape) → epochStateMut e w p ≡ inside (withEpoch w e) (built n (epochWords w e) p)
 unfolding epochStateMut built heard heardAs
 mut-inside n f w h e p = rw (h .nodes) (go (isVacant x) (ask p 1 .answer))
   where
@@ -96,6 +91,34 @@ unfolding committed
 commit-count n f v h e s size =
     skip-head n f _ _ (with-shaped n f v h e (s .words) size) faultsAt (omega arith) (omega arith) (omega arith)
     ∙ with-head n f v h e (s .words) size faultsAt (omega arith)
+
+-- THE RUN of a call of epoch e ends with the batches, or stops before them
+module _ (w : List ℕ) (e : ℕ) (body : List ℕ → Tape → Run (List ℕ) (Unit {0})) (p : Tape) where
+  abbrev called : Run (List ℕ) (Unit {0})
+  called = epochCall (nodes w) body (epochWords w e) p
+
+  abbrev batches : Run ℕ (Unit {0})
+  batches = batchesFrom (nodes w) (beside w e (called .state)) (ahead w + 1) (currentEpoch w) (called .tape)
+
+  by-work : (P : Run Worked (Unit {0}) → Type 0) → P (before (called .log) (inside (worked (called .state)) batches))
+      → ((v : Verdict (Unit {0})) → P (record { state = worked (called .state) (currentEpoch w); verdict = v; tape = called .tape; log = called .log })) → P (workIn w e body p)
+  unfolding workIn onward onwardAs
+  by-work P goes stops = go (called .verdict)
+    where
+      go : (v : Verdict (Unit {0})) → P (onwardAs v (inside (λ x. worked x (currentEpoch w)) called) (λ _ s q.
+          inside (worked (s .words)) (batchesFrom (nodes w) (beside w e (s .words)) (ahead w + 1) (s .next) q)))
+      go (going x) = goes
+      go refused = stops refused
+      go (failed error) = stops (failed error)
+
+  -- the words that it leaves are those of the epoch's call; the epoch that is next is at most the first behind the window
+  pub work-words : workIn w e body p .state .words ≡ called .state
+  work-words = by-work (λ r. r .state .words ≡ called .state) refl (λ v. refl)
+
+  pub work-next : workIn w e body p .state .next ≤ currentEpoch w + (ahead w + 1)
+  work-next =
+      by-work (λ r. r .state .next ≤ currentEpoch w + (ahead w + 1))
+      (next-between (nodes w) (beside w e (called .state)) (ahead w + 1) (currentEpoch w) (called .tape) .high) (λ v. omega arith)
 
 -- THE STATE THAT IS WRITTEN, v, beside the one that is read, w: the same but for what comes after the current epoch in the header
 pub record Over (w v : List ℕ) : Type 0 where
@@ -168,7 +191,7 @@ module _ (w v : List ℕ) (over : Over w v) (e : ℕ) (low : currentEpoch w ≤ 
     long = rw (← over .words e) (words-long (nodes w) (ahead w) v (over .shape) e)
 
     full : length (c .state) ≡ epochLength (nodes w)
-    full = call-full (nodes w) (epochWords w e) p body sized long
+    full = call-full (nodes w) (epochWords w e) p long body sized
 
     -- `rest` is what the definition does once the instances are built
     pub work-apart : (rest : List ℕ → Tape → Run (List ℕ) (Unit {0}))
@@ -203,37 +226,17 @@ module _ (w v : List ℕ) (over : Over w v) (e : ℕ) (low : currentEpoch w ≤ 
         go refused = ap (stopped refused) (sym (none-next (c .state) full))
         go (failed x) = ap (stopped (failed x)) (sym (none-next (c .state) full))
 
-    -- the words that the run leaves are those of the epoch's call
-    pub work-words : workIn w e body p .state .words ≡ c .state
-    unfolding workIn onward onwardAs
-    work-words = go (c .verdict)
-      where
-        go : (t : Verdict (Unit {0})) → onwardAs {B = Unit {0}} t (inside (λ x. worked x (currentEpoch w)) c) (λ _ s q.
-            inside (worked (s .words)) (batchesFrom (nodes w) (beside w e (s .words)) (ahead w + 1) (s .next) q)) .state .words ≡ c .state
-        go (going x) = refl
-        go refused = refl
-        go (failed x) = refl
-
     pub commit-counts : faultCount (committed v e (workIn w e body p .state)) ≡ faultCount v
     commit-counts =
-        commit-count (nodes w) (ahead w) v (over .shape) e (workIn w e body p .state) (ap length work-words ∙ full)
+        commit-count (nodes w) (ahead w) v (over .shape) e (workIn w e body p .state) (ap length (work-words w e body p) ∙ full)
 
     -- where the run fails no batch went out: the epoch's words alone are written
     pub failed-keeps : (error : ℕ) → workIn w e body p .verdict ≡ failed error
         → committed v e (workIn w e body p .state) ≡ withEpoch v e (workIn w e body p .state .words)
-    unfolding workIn onward onwardAs
-    failed-keeps error = go (c .verdict)
-      where
-        loop : Unit {0} → Worked → Tape → Run Worked (Unit {0})
-        loop _ s q = inside (worked (s .words)) (batchesFrom (nodes w) (beside w e (s .words)) (ahead w + 1) (s .next) q)
-
-        r : Run Worked (Unit {0})
-        r = inside (λ x. worked x (currentEpoch w)) c
-
-        go : (t : Verdict (Unit {0})) → onwardAs t r loop .verdict ≡ failed error → committed v e (onwardAs t r loop .state) ≡ withEpoch v e (onwardAs t r loop .state .words)
-        go (going x) z = absurd (false≢true (rw z at (batches-never-fail (nodes w) (beside w e (c .state)) (ahead w + 1) (currentEpoch w) (c .tape) .fails)))
-        go refused z = none-next (c .state) full
-        go (failed x) z = none-next (c .state) full
+    failed-keeps error =
+        by-work w e body p (λ r. r .verdict ≡ failed error → committed v e (r .state) ≡ withEpoch v e (r .state .words))
+        (λ z. absurd (false≢true (only-number (λ _. false) _ error (batches-never-fail (nodes w) (beside w e (c .state)) (ahead w + 1) (currentEpoch w) (c .tape)) z)))
+        (λ _ _. none-next (c .state) full)
 
 -- AN EPOCH'S CALL leaves as many words as it had, whatever they are
 module _ (net : NetworkInfo) (strategy : SubsetHandlingStrategy) (encrypted : Bool) where
@@ -271,16 +274,18 @@ module _ (w : List ℕ) (ok : stateOk w ≡ true) (p : Tape) where
           let numbers : (i : ℕ) → i < epochAt → getD u i 0 ≡ getD w i 0 = λ i k. head i (omega arith) in
           rw (head epochAt (omega arith), net-same u w numbers, strategy-same u w numbers, encrypted-same u w numbers c)
 
+  -- what holds of that run, and of one that does nothing, holds of propose
+  pub by-propose-apart : (P : Run (List ℕ) (Unit {0}) → Type 0) → P (inside (committed (set w inputAt 1) (currentEpoch w)) (proposeWork w p)) → P (ends (going tt) w p) → P (propose w p)
+  by-propose-apart P runs none = rw propose-apart (either P (isValidator (netOf w)) _ _ (λ _. runs) (λ _. none))
+
   pub propose-counts : faultCount (propose w p .state) ≡ faultCount w
   unfolding proposeWork
-  propose-counts = ap (λ r. faultCount (r .state)) propose-apart ∙ go (isValidator (netOf w))
-    where
-      go : (t : Bool) → faultCount (cond t (inside (committed given (currentEpoch w)) (proposeWork w p)) (ends (going tt) w p) .state) ≡ faultCount w
-      go true =
-          commit-counts w given (over-input w ok) (currentEpoch w) (omega arith) (omega arith)
-          (proposing w (currentEpoch w)) (sized-propose (netOf w) (strategyOf w) (encryptedIn w (currentEpoch w))) p
-          ∙ getD-set-other w inputAt faultsAt 1 0 (omega arith)
-      go false = refl
+  propose-counts =
+      by-propose-apart (λ r. faultCount (r .state) ≡ faultCount w)
+      (commit-counts w given (over-input w ok) (currentEpoch w) (omega arith) (omega arith)
+      (proposing w (currentEpoch w)) (sized-propose (netOf w) (strategyOf w) (encryptedIn w (currentEpoch w))) p
+      ∙ getD-set-other w inputAt faultsAt 1 0 (omega arith))
+      refl
 
   -- where it fails, has input and the epoch's words are kept
   pub propose-failed : (error : ℕ) → proposeWork w p .verdict ≡ failed error
@@ -322,15 +327,18 @@ module _ (w : List ℕ) (ok : stateOk w ≡ true) (p : Tape) where
                 let numbers : (i : ℕ) → i < epochAt → getD u i 0 ≡ getD w i 0 = λ i k. head i (omega arith) in
                 rw (net-same u w numbers, strategy-same u w numbers, encrypted-same u w numbers epoch)
 
+    -- what holds of that run where the epoch is in the window, of one that does nothing, and of one that writes fault 1 alone holds of the message
+    pub by-message-apart : (P : Run (List ℕ) (Unit {0}) → Type 0)
+        → (currentEpoch w ≤ epoch → epoch ≤ currentEpoch w + ahead w → P (inside (committed w epoch) (messageWork sender epoch proposer content w p)))
+        → P (before (fault 1 sender 0 ∷ []) (ends (going tt) w p)) → P (ends (going tt) w p) → P (handleMessage sender epoch proposer content w p)
+    by-message-apart P runs far late =
+        rw message-apart (either P (ltb (currentEpoch w + ahead w) epoch) _ _ (λ _. far) (λ a.
+        either P (ltb epoch (currentEpoch w)) _ _ (λ _. late) (λ b. runs (ltb-false _ _ b) (ltb-false _ _ a))))
+
     pub message-counts : faultCount (handleMessage sender epoch proposer content w p .state) ≡ faultCount w
     unfolding messageWork
-    message-counts = ap (λ r. faultCount (r .state)) message-apart ∙ go (ltb (currentEpoch w + ahead w) epoch) refl (ltb epoch (currentEpoch w)) refl
-      where
-        go : (s : Bool) → ltb (currentEpoch w + ahead w) epoch ≡ s → (t : Bool) → ltb epoch (currentEpoch w) ≡ t
-            → faultCount (cond s (before (fault 1 sender 0 ∷ []) (ends (going tt) w p)) (cond t (ends (going tt) w p) (inside (committed w epoch) (messageWork sender epoch proposer content w p))) .state) ≡ faultCount w
-        go true a t b = refl
-        go false a true b = refl
-        go false a false b = commit-counts w w (over-same w ok) epoch (ltb-false _ _ b) (ltb-false _ _ a) (handling w) size p
+    message-counts =
+        by-message-apart (λ r. faultCount (r .state) ≡ faultCount w) (λ low high. commit-counts w w (over-same w ok) epoch low high (handling w) size p) refl refl
 
     pub message-failed : currentEpoch w ≤ epoch → epoch ≤ currentEpoch w + ahead w → (error : ℕ) → messageWork sender epoch proposer content w p .verdict ≡ failed error
         → committed w epoch (messageWork sender epoch proposer content w p .state) ≡ withEpoch w epoch (messageWork sender epoch proposer content w p .state .words)

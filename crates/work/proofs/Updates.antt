@@ -1,5 +1,5 @@
 -- `updateEpoch`: what it leaves of the state. Assumes nothing.
-use Prim.Native.Nat.{ℕ, _+_, _%_, _≤_, _<_}
+use Prim.Native.Nat.{ℕ, _+_, _≤_, _<_}
 use native.Mathlib.Nat.{add-mod-right}
 use native.Mathlib.Omega.{arith}
 use mathlib.Core.Path.{_≡_, sym, _∙_}

@@ -1,30 +1,37 @@
 -- A run beside the state works on words in range: those of its epoch stay so, and the loop over batches reads no others. Assumes nothing.
-use Prim.Native.Nat.{ℕ, _<_}
+use Prim.Native.Nat.{ℕ, _≤_, _<_}
 use mathlib.Core.Path.{_≡_, refl}
 use mathlib.Core.List.{List}
 use mathlib.Core.Bool.{Bool, true, false, cond}
+use native.Mathlib.Omega.{arith}
 use lib.Dec.{eqb}
 use Rattle.steps.specs.Answers.{Tape}
 use Rattle.steps.specs.Runs.{Run}
-use Rattle.steps.proofs.Ranges.{AllSmall, Kept, Any, kept-going, kept-failed, kept-cond, kept-ask, kept-onward}
+use Rattle.steps.proofs.Ranges.{AllSmall, Kept, Any, SmallOption, small, keeping}
+use Rattle.subset.specs.Words.{countOf}
 use Rattle.subset.proofs.Ranges.{EpochOk, SafeEpoch}
+use Rattle.epochwords.specs.Words.{mostKept}
 use Rattle.epoch.specs.declared.MessageContent.{MessageContent}
-use Rattle.epochwords.specs.Words.{isVacant}
-use Rattle.epoch.specs.Epoch.{propose as proposeInEpoch, handleMessageContent}
+use Rattle.epoch.specs.Epoch.{newEpoch, propose as proposeInEpoch, handleMessageContent}
+use Rattle.epoch.proofs.ListEmptied.{new-epoch-none, propose-keeps, content-keeps}
 use Rattle.epoch.proofs.Ranges.{ContentOk, new-epoch-ok, propose-safe, content-safe}
 use Rattle.state.specs.State.{nodes, netOf, strategyOf, encryptedIn, epochWords, stateOk}
-use Rattle.work.specs.Work.{built, epochCall, beside}
-use Rattle.state.proofs.RangesState.{header-ok, words-in-range}
+use Rattle.work.specs.Work.{epochCall, beside}
+use Rattle.work.proofs.Walk.{call-keeps}
+use Rattle.state.proofs.RangesState.{header-ok, words-in-range, lists-in-range}
 
--- an epoch is built in range, and its call keeps it there
-pub call-safe : (n : ℕ) → 0 < n → (body : List ℕ → Tape → Run (List ℕ) (Unit {0})) → SafeEpoch n body → SafeEpoch n (epochCall n body)
-unfolding epochCall built
-call-safe n some body s x p h o =
-    kept-onward {Q = Any} _ _
-    (kept-cond (isVacant x) _ _
-    (λ _. kept-ask p 1 x _ refl h o (λ a b q _ o. kept-cond (eqb a 0) _ _ (λ _. kept-failed h o) (λ _. kept-going (new-epoch-ok n some) o tt)))
-    (λ _. kept-going h o tt))
-    (λ _ x q h o _. s x q h o)
+-- the words x of an epoch of the state w: in range, with no more contributions kept than the strategy allows
+abbrev pub WordsOk : List ℕ → List ℕ → Type 0
+WordsOk w x = EpochOk (nodes w) x × (countOf x ≤ mostKept (strategyOf w) (nodes w))
+
+-- operations on an epoch's words that keep P, whatever their verdict
+abbrev pub SafeIn : (List ℕ → Type 0) → (List ℕ → Tape → Run (List ℕ) (Unit {0})) → Type 0
+SafeIn P k = (x : List ℕ) (p : Tape) → P x → AllSmall (p .rest) → Kept P Any (k x p)
+
+-- what a new epoch has and the epoch's call keeps
+pub call-safe : (n : ℕ) (P : List ℕ → Type 0) → P (newEpoch n) → (body : List ℕ → Tape → Run (List ℕ) (Unit {0})) → SafeIn P body → SafeIn P (epochCall n body)
+unfolding SmallOption
+call-safe n P new body s x p h o = call-keeps (small n) (keeping n P) n (record { reads = refl; number = tt; new = λ x h u. (new, tt) }) 0 body (λ x q h o u. s x q h o) x p h o tt
 
 module _ (w : List ℕ) (ok : stateOk w ≡ true) where
   pub beside-in-range : (e : ℕ) (x : List ℕ) → EpochOk (nodes w) x → (d : ℕ) → EpochOk (nodes w) (beside w e x d)
@@ -35,16 +42,24 @@ module _ (w : List ℕ) (ok : stateOk w ≡ true) where
       go true = h
       go false = words-in-range w ok d
 
+  in-range : (body : List ℕ → Tape → Run (List ℕ) (Unit {0})) → SafeEpoch (nodes w) body
+      → ((x : List ℕ) (q : Tape) → countOf x ≤ mostKept (strategyOf w) (nodes w) → EpochOk (nodes w) (body x q .state) → countOf (body x q .state) ≤ mostKept (strategyOf w) (nodes w))
+      → (e : ℕ) (p : Tape) → AllSmall (p .rest) → Kept (WordsOk w) Any (epochCall (nodes w) body (epochWords w e) p)
+  in-range body safe lists e p small =
+      call-safe (nodes w) (WordsOk w) (new-epoch-ok (nodes w) (header-ok w ok .some), omega (arith, new-epoch-none (nodes w))) body
+      (λ x q h o. let k = safe x q (h .0) o in record { state = (k .state, lists x q (h .1) (k .state)); tape = k .tape; value = k .value })
+      (epochWords w e) p (words-in-range w ok e, lists-in-range w ok e) small
+
   module _ (p : Tape) (small : AllSmall (p .rest)) where
-    pub propose-in-range : (e : ℕ) → Kept (EpochOk (nodes w)) Any (epochCall (nodes w) (proposeInEpoch (netOf w) (strategyOf w) (encryptedIn w e)) (epochWords w e) p)
+    pub propose-in-range : (e : ℕ) → Kept (WordsOk w) Any (epochCall (nodes w) (proposeInEpoch (netOf w) (strategyOf w) (encryptedIn w e)) (epochWords w e) p)
     unfolding netOf
     propose-in-range e =
-        call-safe (nodes w) (header-ok w ok .some) _ (propose-safe (netOf w) (header-ok w ok .some) (header-ok w ok .few) (strategyOf w) (encryptedIn w e))
-        (epochWords w e) p (words-in-range w ok e) small
+        in-range _ (propose-safe (netOf w) (header-ok w ok .some) (header-ok w ok .few) (strategyOf w) (encryptedIn w e))
+        (λ x q. propose-keeps (netOf w) (encryptedIn w e) x q (strategyOf w)) e p small
 
     pub message-in-range : (e sender proposer : ℕ) (content : MessageContent) → proposer < nodes w → ContentOk content
-        → Kept (EpochOk (nodes w)) Any (epochCall (nodes w) (handleMessageContent (netOf w) (strategyOf w) (encryptedIn w e) sender proposer content) (epochWords w e) p)
+        → Kept (WordsOk w) Any (epochCall (nodes w) (handleMessageContent (netOf w) (strategyOf w) (encryptedIn w e) sender proposer content) (epochWords w e) p)
     unfolding netOf
     message-in-range e sender proposer content l u =
-        call-safe (nodes w) (header-ok w ok .some) _ (content-safe (netOf w) (header-ok w ok .some) (header-ok w ok .few) (strategyOf w) (encryptedIn w e) sender proposer content l u)
-        (epochWords w e) p (words-in-range w ok e) small
+        in-range _ (content-safe (netOf w) (header-ok w ok .some) (header-ok w ok .few) (strategyOf w) (encryptedIn w e) sender proposer content l u)
+        (λ x q. content-keeps (netOf w) (encryptedIn w e) x q (strategyOf w) sender proposer content) e p small
