@@ -18,10 +18,9 @@ use Rattle.steps.specs.Steps.{Out, putEntry, putAll, fault, output}
 use Rattle.steps.specs.Runs.{going, refused, ends, before, onward, leaves}
 use Rattle.steps.specs.Bits.{hasBit, withBit, countBits}
 use Rattle.steps.proofs.RunLaws.{heard-got, heard-none, leaves-before}
-use Rattle.subset.specs.Words.{recordLength, fieldAt}
+use Rattle.subset.specs.Words.{fieldAt}
 use Rattle.steps.proofs.AfterRun.{after-out}
 use Rattle.epochwords.specs.Words.{isAccepted, isSettled, decryptionIn, plaintextIn, plaintextField}
-use Rattle.epochwords.specs.Shape.{EpochWords}
 use Rattle.epochwords.specs.Batch.{decryptedFrom, isRead, readAt, readFrom, entriesFrom}
 use Rattle.epochwords.specs.BatchOutcomes.{Records, readVerdict}
 use Rattle.epochwords.specs.declared.batch.Reading.{Reading}
@@ -32,10 +31,6 @@ use Rattle.epochwords.proofs.batch.Reading.{the-type as reading-type}
 -- before the first turn of a loop, n are left
 pub all-left : (n : ℕ) → n - 0 ≡ n
 all-left n = omega arith
-
--- the engine's own records are such, for callers
-pub epoch-records : (n : ℕ) (w : List ℕ) → EpochWords n w → Records (recordLength n) n w
-epoch-records n w h = record { few = h .few; fields = omega arith; long = omega (arith, h .long) }
 
 -- p's record is inside
 pub record-here : (size n p : ℕ) (w : List ℕ) → Records size n w → p < n → (p < nodeLimit) × (fieldAt size p plaintextField < length w)

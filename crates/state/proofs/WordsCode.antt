@@ -6,11 +6,11 @@ use native.Mathlib.Omega.{arith}
 use native.Mathlib.Nat.{mul-le-mul-right}
 use native.Mathlib.Numerals.{add-one}
 use lib.ListN.{length, getD, set, take, drop, replicate, length-append, length-take, length-drop, length-replicate, length-set, getD-replicate}
-use lib.Seq.{drop-cons, take-suc, set-at, append-snoc, length-take-le, drop-drop, take-all, drop-length, getD-set-same, getD-set-other}
+use lib.Seq.{drop-cons, take-suc, set-at, append-snoc, length-take-le, drop-drop, take-all, drop-length, getD-set-other}
 use Rattle.steps.specs.Numbers.{nodeLimit, aheadLimit, lastEpoch}
 use Rattle.subset.specs.Words.{epochLength}
 use Rattle.epochwords.specs.Shape.{EpochWords}
-use Rattle.state.specs.State.{headerLength, nodesAt, aheadAt, epochAt, inputAt, faultsAt, epochsAt, stateLength, nodes, ahead, placeOf, epochWords, withEpoch, withoutEpoch}
+use Rattle.state.specs.State.{headerLength, nodesAt, aheadAt, epochAt, inputAt, epochsAt, stateLength, nodes, ahead, placeOf, epochWords, withEpoch, withoutEpoch}
 use Rattle.state.specs.Shape.{StateWords}
 use Rattle.state.proofs.Window.{Shaped, header-first, place-is, place-in, words-long, with-head, with-long}
 
@@ -96,12 +96,6 @@ module _ (w : List ℕ) (h : StateWords w) where
 
   pub input-kept : (a : ℕ) → StateWords (set w inputAt a)
   input-kept a = set-kept inputAt a (omega arith) (rw (getD-set-other w inputAt epochAt a 0 (omega arith)) (h .epoch))
-
-  pub faults-kept : (a : ℕ) → StateWords (set w faultsAt a)
-  faults-kept a = set-kept faultsAt a (omega arith) (rw (getD-set-other w faultsAt epochAt a 0 (omega arith)) (h .epoch))
-
-  pub epoch-kept : (e : ℕ) → e ≤ lastEpoch + ahead w + 1 → StateWords (set w epochAt e)
-  epoch-kept e l = set-kept epochAt e (omega arith) (rw (getD-set-same w epochAt e 0 (omega (arith, header-inside))) l)
 
 -- A PART OF THE STATE, as the code lends it: from the place on, l words
 module _ (w : List ℕ) (e at l : ℕ) (a : at ≡ placeOf w e) (b : l ≡ epochLength (nodes w)) where

@@ -147,10 +147,6 @@ unfolding putAll
 putAll-append o [] m = refl
 putAll-append o (e ∷ l) m = putAll-append (putEntry o e) l m
 
-pub putAll-none : (o : Out) → putAll o [] ≡ o
-unfolding putAll
-putAll-none o = refl
-
 pub putAll-one : (o : Out) (e : Entry) → putAll o (e ∷ []) ≡ putEntry o e
 unfolding putAll
 putAll-one o e = refl

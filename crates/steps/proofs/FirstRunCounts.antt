@@ -7,7 +7,7 @@ use native.Mathlib.Omega.{arith}
 use native.Mathlib.Nat.{zero-add, add-zero}
 use lib.ListN.{length}
 use lib.Dec.{leb}
-use borrow.Author.Tests.{leb-true, leb-false, le-leb, lt-leb}
+use borrow.Author.Tests.{leb-true, leb-false}
 use Rattle.steps.specs.declared.step.Chain.{Chain}
 use Rattle.steps.specs.declared.step.Step.{Step}
 use Rattle.steps.specs.Steps.{Entry, message, fault, output, messages, faults, outputs, out, advance, putAt, putEntry, putAll, counting, Counted, records}
@@ -84,11 +84,3 @@ module _ (l : List Entry) (w : List ℕ) where
 
   pub records-counted : length l < 0x1_0000_0000 → records (putAll (out counting w) l .step) ≡ 1 + length l
   records-counted h = rw (counts-exact h) (omega (arith, lists-length l))
-
-  -- so that a table of at most 2^32 records can take what was counted where it can take the log
-  pub records-test : (room : ℕ) → room ≤ 0x1_0000_0000 → leb (records (putAll (out counting w) l .step)) room ≡ leb (1 + length l) room
-  records-test room h = rw counts (go (leb (1 + length l) room) refl)
-    where
-      go : (x : Bool) → leb (1 + length l) room ≡ x → leb (records (countedOf l)) room ≡ x
-      go true e = le-leb (records (countedOf l)) room (omega (arith, lists-length l, leb-true (1 + length l) room e))
-      go false e = lt-leb (records (countedOf l)) room (omega (arith, lists-length l, leb-false (1 + length l) room e))

@@ -94,10 +94,6 @@ module _ (is : ℕ → Bool) where
       let e : bitsFrom is n 0 ≡ 0 + bitsFrom is n 0 = omega arith in
       ap ones e ∙ ones-above n 0 0 (omega arith) ∙ omega (arith, ones-none)
 
-  -- and so is the count of its bits
-  pub bits-count : (n : ℕ) → countBits n 0 (bitsFrom is n 0) ≡ countIf is n 0
-  bits-count n = sym (ones-bits n (bitsFrom is n 0) (bits-below n)) ∙ bits-ones n
-
   -- it has exactly these bits
   highs : ℕ → ℕ → ℕ
   highs zero i = 0

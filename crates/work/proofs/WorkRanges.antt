@@ -1,10 +1,9 @@
--- A run beside the state works on words in range: those of its epoch stay so, and the loop over batches reads no others. Assumes nothing.
+-- A run beside the state works on words in range: those of its epoch stay so. Assumes nothing.
 use Prim.Native.Nat.{ℕ, _≤_, _<_}
 use mathlib.Core.Path.{_≡_, refl}
 use mathlib.Core.List.{List}
-use mathlib.Core.Bool.{Bool, true, false, cond}
+use mathlib.Core.Bool.{true}
 use native.Mathlib.Omega.{arith}
-use lib.Dec.{eqb}
 use Rattle.steps.specs.Answers.{Tape}
 use Rattle.steps.specs.Runs.{Run}
 use Rattle.steps.proofs.Ranges.{AllSmall, Kept, Any, SmallOption, small, keeping}
@@ -34,14 +33,6 @@ unfolding SmallOption
 call-safe n P new body s x p h o = call-keeps (small n) (keeping n P) n (record { reads = refl; number = tt; new = λ x h u. (new, tt) }) 0 body (λ x q h o u. s x q h o) x p h o tt
 
 module _ (w : List ℕ) (ok : stateOk w ≡ true) where
-  pub beside-in-range : (e : ℕ) (x : List ℕ) → EpochOk (nodes w) x → (d : ℕ) → EpochOk (nodes w) (beside w e x d)
-  unfolding beside
-  beside-in-range e x h d = go (eqb d e)
-    where
-      go : (t : Bool) → EpochOk (nodes w) (cond t x (epochWords w d))
-      go true = h
-      go false = words-in-range w ok d
-
   in-range : (body : List ℕ → Tape → Run (List ℕ) (Unit {0})) → SafeEpoch (nodes w) body
       → ((x : List ℕ) (q : Tape) → countOf x ≤ mostKept (strategyOf w) (nodes w) → EpochOk (nodes w) (body x q .state) → countOf (body x q .state) ≤ mostKept (strategyOf w) (nodes w))
       → (e : ℕ) (p : Tape) → AllSmall (p .rest) → Kept (WordsOk w) Any (epochCall (nodes w) body (epochWords w e) p)
