@@ -100,7 +100,7 @@ fn combine(answers: &[u64], place: &mut usize) -> Outcome
     ensures { λ r. ⌜ ((td : ThresholdDecrypt) (s : Step) (w : List ℕ) → left (handled td r s) (tapeAt (now (answers .entry)) (now (place .exit))) w
         ≡ leaves (out s w) (combine td (tapeAt (now (answers .entry)) (now (place .entry))))) ⌝ }
 {
-    match steps::reader::ask(answers, place, CONTRIBUTION_DECRYPTED) {
+    match steps::reader::ask_from(answers, place, CONTRIBUTION_DECRYPTED) {
         Answer::Got { a, b } => {
             if a == 0 {
                 return Outcome::Decryption;
@@ -149,7 +149,7 @@ impl ThresholdDecrypt {
                 outcome: SetOutcome::MultipleInputs,
             };
         }
-        match steps::reader::ask_about(answers, place, CIPHERTEXT_VERIFIES, proposer) {
+        match steps::reader::ask_about_from(answers, place, CIPHERTEXT_VERIFIES, proposer) {
             Answer::Got { a, b: _ } => {
                 if a == 0 {
                     return SetCiphertext {
@@ -179,7 +179,7 @@ impl ThresholdDecrypt {
         if self.ciphertext == 0 {
             return Validity::Valid;
         }
-        match steps::reader::ask_about(answers, place, SHARE_VERIFIES, sender as u64) {
+        match steps::reader::ask_about_from(answers, place, SHARE_VERIFIES, sender as u64) {
             Answer::Got { a, b: _ } => {
                 if a == 0 {
                     return Validity::Invalid;
@@ -273,7 +273,7 @@ impl ThresholdDecrypt {
         if !(net.is_validator() & net.has_key) {
             return td.try_output(net, proposer, answers, place, done, words);
         }
-        match steps::reader::ask(answers, place, OWN_DECRYPTION_SHARE) {
+        match steps::reader::ask_from(answers, place, OWN_DECRYPTION_SHARE) {
             Answer::Got { a: _, b } => {
                 let sent = done.message(words, SHARE_CONTENT, proposer, b);
                 let own = net.our_id;

@@ -305,7 +305,7 @@ fn send_decryption_share(
     ensures { λ r. ⌜ left (now (epoch .exit)) r (tapeAt (now (answers .entry)) (now (place .exit))) (now (words .exit))
         ≡ leaves (out step (now (words .entry))) (sendDecryptionShare net p value (now (epoch .entry)) (tapeAt (now (answers .entry)) (now (place .entry)))) ⌝ }
 {
-    match steps::reader::ask_about(answers, place, CIPHERTEXT_READS, p as u64) {
+    match steps::reader::ask_about_from(answers, place, CIPHERTEXT_READS, p as u64) {
         Answer::Got { a, b: _ } => {
             if a == 0 {
                 let faulted = step.fault(words, DESERIALIZE_CIPHERTEXT, p as u64, 0);
@@ -672,7 +672,11 @@ fn serialise(input: SubsetInput, answers: &[u64], place: &mut usize) -> Outcome
         ≡ leaves o (serialised input w (tapeAt (now (answers .entry)) (now (place .entry))))) ⌝ }
 {
     match input {
-        SubsetInput::Proposal => match steps::reader::ask(answers, place, PROPOSAL_SERIALISED) {
+        SubsetInput::Proposal => match steps::reader::ask_from(
+            answers,
+            place,
+            PROPOSAL_SERIALISED,
+        ) {
             Answer::Got { a, b: _ } => {
                 if a == 0 {
                     return Outcome::Failed(PROPOSE_BINCODE);

@@ -120,7 +120,7 @@ fn build(epoch: &mut [u64], n: usize, answers: &[u64], place: &mut usize) -> u64
     if epoch[STATUS_AT] != STATUS_VACANT {
         return SUCCESS;
     }
-    match steps::reader::ask(answers, place, INSTANCES_BUILT) {
+    match steps::reader::ask_from(answers, place, INSTANCES_BUILT) {
         Answer::Got { a, b: _ } => {
             if a == 0 {
                 return CREATE_SUBSET;

@@ -108,7 +108,7 @@ fn read_at(
             step,
         };
     }
-    match steps::reader::ask_about(answers, place, CONTRIBUTION_READS, p as u64) {
+    match steps::reader::ask_about_from(answers, place, CONTRIBUTION_READS, p as u64) {
         Answer::Got { a, b: _ } => {
             if a == 0 {
                 let faulted = step.fault(words, BATCH_DESERIALIZATION_FAILED, p as u64, 0);

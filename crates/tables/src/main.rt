@@ -89,14 +89,21 @@ fn content_of(kind: u64) -> Content {
 // An answer of this kind about this node, with its parts.
 fn hear(answers: &[u64], kind: u64, who: u64, step: Step, words: &mut [u64]) -> Heard {
     let mut place = first(answers);
-    match steps::reader::ask_about(answers, &mut place, kind, who) {
+    match steps::reader::ask_about_from(answers, &mut place, kind, who) {
         Answer::Got { a, b: _ } => {
             if a == 0 {
                 let told = Told::No;
                 return Heard { told, step };
             }
             let content = content_of(kind);
-            let parts = steps::reader::read_parts(answers, &mut place, content, who, step, words);
+            let parts = steps::reader::read_parts_from(
+                answers,
+                &mut place,
+                content,
+                who,
+                step,
+                words,
+            );
             let output = parts.output;
             let told = Told::Output(output);
             let done = parts.step;

@@ -21,7 +21,7 @@ use Rattle.decryption.proofs.ThresholdDecrypt.remove_invalid_shares.Rea
 use Rattle.decryption.proofs.combine.Reads as combine-reads
 use Rattle.decryption.proofs.count.Reads as count-reads
 use Rattle.network.proofs.network_info.NetworkInfo.is_validator.Reads as is-validator-reads
-use Rattle.steps.proofs.reader.ask.Reads as ask-reads
+use Rattle.steps.proofs.reader.ask_from.Reads as ask-from-reads
 use Rattle.steps.proofs.step.Step.message.Reads as message-reads
 use Rattle.decryption.proofs.ThresholdDecrypt.+start_decryption+try_output.{statement}
 use Rattle.decryption.proofs.ThresholdDecrypt.+start_decryption+try_output.Tie.{close}
@@ -58,7 +58,7 @@ try-output-below t =
 
 -- what each call in start-decryption asks and tells, below the measure t
 abbrev start-decryption-claims : ℕ → start-decryption-lts.Claims
-start-decryption-claims t = (handled-reads.Asked, handled-reads.Learnt, remove-invalid-shares-reads.Asked, remove-invalid-shares-reads.Learnt, is-validator-reads.Asked, is-validator-reads.Learnt, try-output-below t, try-output.Post, ask-reads.Asked, ask-reads.Learnt, message-reads.Asked, message-reads.Learnt)
+start-decryption-claims t = (handled-reads.Asked, handled-reads.Learnt, remove-invalid-shares-reads.Asked, remove-invalid-shares-reads.Learnt, is-validator-reads.Asked, is-validator-reads.Learnt, try-output-below t, try-output.Post, ask-from-reads.Asked, ask-from-reads.Learnt, message-reads.Asked, message-reads.Learnt)
 
 -- src/lib.rt:260:13
 start-decryption-handled-requires : (t : ℕ) → start-decryption-lts.Need-handled-requires (start-decryption-claims t) (start-decryption-at t) start-decryption.Post
@@ -117,8 +117,8 @@ start-decryption-returns-4 : (t : ℕ) → start-decryption-lts.Need-returns-4 (
 start-decryption-returns-4 t c = c .before .before .try-output .ensures ∙ ap (leaves _) (sym (own-observer _ _ _ _ _ (rw (← c .before .before .before .before .before .before .before .is-validator .ensures) (not-true _ (c .before .before .before .before .before .if3 .taken))))) ∙ (start-goes _ _ _ _ _ _ (c .before .before .before .before .before .before .before .before .before .before .before .before .before .before .before .before .before .before .before .if1 .left) (c .before .before .before .before .before .before .before .before .before .before .before .before .before .before .before .before .before .if2 .left) (c .before .before .before .before .before .before .before .before .before .before .before .before .before .before .remove-invalid-shares .ensures) (ap checkedVerdict (c .before .before .before .before .before .before .before .before .enum-told .given .1)))
 
 -- src/lib.rt:276:15
-start-decryption-ask-requires : (t : ℕ) → start-decryption-lts.Need-ask-requires (start-decryption-claims t) (start-decryption-at t) start-decryption.Post
-start-decryption-ask-requires t c κs = search needs
+start-decryption-ask-from-requires : (t : ℕ) → start-decryption-lts.Need-ask-from-requires (start-decryption-claims t) (start-decryption-at t) start-decryption.Post
+start-decryption-ask-from-requires t c κs = search needs
 
 -- src/lib.rt:277:33
 start-decryption-enum-known-b : (t : ℕ) → start-decryption-lts.Need-enum-known-b (start-decryption-claims t) (start-decryption-at t) start-decryption.Post
@@ -154,7 +154,7 @@ start-decryption-same-length-3 t c = c .before .before .try-output2 .kept .1 .1 
 
 -- src/lib.rt:246:5
 start-decryption-returns-5 : (t : ℕ) → start-decryption-lts.Need-returns-5 (start-decryption-claims t) (start-decryption-at t) start-decryption.Post
-start-decryption-returns-5 t c = c .before .before .try-output2 .ensures ∙ own-sends _ _ _ _ _ _ _ (c .before .before .before .before .before .before .before .before .before .before .before .before .ask .ensures) (rw (← c .before .before .before .before .before .before .before .before .before .before .before .before .before .before .before .before .is-validator .ensures) (not-false _ (c .before .before .before .before .before .before .before .before .before .before .before .before .before .before .if3 .left))) _ _ (c .before .before .before .before .before .before .before .before .before .before .b .given .1) _ _ (c .before .before .before .before .before .before .before .message .ensures) ∙ (start-goes _ _ _ _ _ _ (c .before .before .before .before .before .before .before .before .before .before .before .before .before .before .before .before .before .before .before .before .before .before .before .before .before .before .before .before .if1 .left) (c .before .before .before .before .before .before .before .before .before .before .before .before .before .before .before .before .before .before .before .before .before .before .before .before .before .before .if2 .left) (c .before .before .before .before .before .before .before .before .before .before .before .before .before .before .before .before .before .before .before .before .before .before .before .remove-invalid-shares .ensures) (ap checkedVerdict (c .before .before .before .before .before .before .before .before .before .before .before .before .before .before .before .before .before .enum-told .given .1)))
+start-decryption-returns-5 t c = c .before .before .try-output2 .ensures ∙ own-sends _ _ _ _ _ _ _ (c .before .before .before .before .before .before .before .before .before .before .before .before .ask-from .ensures) (rw (← c .before .before .before .before .before .before .before .before .before .before .before .before .before .before .before .before .is-validator .ensures) (not-false _ (c .before .before .before .before .before .before .before .before .before .before .before .before .before .before .if3 .left))) _ _ (c .before .before .before .before .before .before .before .before .before .before .b .given .1) _ _ (c .before .before .before .before .before .before .before .message .ensures) ∙ (start-goes _ _ _ _ _ _ (c .before .before .before .before .before .before .before .before .before .before .before .before .before .before .before .before .before .before .before .before .before .before .before .before .before .before .before .before .if1 .left) (c .before .before .before .before .before .before .before .before .before .before .before .before .before .before .before .before .before .before .before .before .before .before .before .before .before .before .if2 .left) (c .before .before .before .before .before .before .before .before .before .before .before .before .before .before .before .before .before .before .before .before .before .before .before .remove-invalid-shares .ensures) (ap checkedVerdict (c .before .before .before .before .before .before .before .before .before .before .before .before .before .before .before .before .before .enum-told .given .1)))
 
 -- src/lib.rt:246:5
 start-decryption-same-length-4 : (t : ℕ) → start-decryption-lts.Need-same-length-4 (start-decryption-claims t) (start-decryption-at t) start-decryption.Post
@@ -162,7 +162,7 @@ start-decryption-same-length-4 t c = search needs
 
 -- src/lib.rt:246:5
 start-decryption-returns-6 : (t : ℕ) → start-decryption-lts.Need-returns-6 (start-decryption-claims t) (start-decryption-at t) start-decryption.Post
-start-decryption-returns-6 t c = hands (c .handled4 .ensures) ∙ ap (leaves _) (sym (own-refused _ _ _ _ _ _ _ (c .before .before .before .ask .ensures) (rw (← c .before .before .before .before .before .before .before .is-validator .ensures) (not-false _ (c .before .before .before .before .before .if3 .left))) (c .before .enum-told3 .given .1))) ∙ (start-goes _ _ _ _ _ _ (c .before .before .before .before .before .before .before .before .before .before .before .before .before .before .before .before .before .before .before .if1 .left) (c .before .before .before .before .before .before .before .before .before .before .before .before .before .before .before .before .before .if2 .left) (c .before .before .before .before .before .before .before .before .before .before .before .before .before .before .remove-invalid-shares .ensures) (ap checkedVerdict (c .before .before .before .before .before .before .before .before .enum-told .given .1)))
+start-decryption-returns-6 t c = hands (c .handled4 .ensures) ∙ ap (leaves _) (sym (own-refused _ _ _ _ _ _ _ (c .before .before .before .ask-from .ensures) (rw (← c .before .before .before .before .before .before .before .is-validator .ensures) (not-false _ (c .before .before .before .before .before .if3 .left))) (c .before .enum-told3 .given .1))) ∙ (start-goes _ _ _ _ _ _ (c .before .before .before .before .before .before .before .before .before .before .before .before .before .before .before .before .before .before .before .if1 .left) (c .before .before .before .before .before .before .before .before .before .before .before .before .before .before .before .before .before .if2 .left) (c .before .before .before .before .before .before .before .before .before .before .before .before .before .before .remove-invalid-shares .ensures) (ap checkedVerdict (c .before .before .before .before .before .before .before .before .enum-told .given .1)))
 
 -- what each call in try-output asks and tells, below the measure t
 abbrev try-output-claims : ℕ → try-output-lts.Claims
@@ -258,7 +258,7 @@ pub +start-decryption+try-output-spec : {M : Type 1} → statement M
     (start-decryption-try-output-requires t)
     (start-decryption-same-length-2 t)
     (start-decryption-returns-4 t)
-    (start-decryption-ask-requires t)
+    (start-decryption-ask-from-requires t)
     (start-decryption-enum-known-b t)
     (start-decryption-message-requires t)
     (start-decryption-mul-td t)
