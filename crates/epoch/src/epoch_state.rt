@@ -191,12 +191,12 @@ fn input_ciphertext(
     ensures { λ r. ⌜ leftEntered r (tapeAt (now (answers .entry)) (now (place .exit))) (now (words .exit))
         ≡ leaves (out step (now (words .entry))) (inputCiphertext net p value td (tapeAt (now (answers .entry)) (now (place .entry)))) ⌝ }
 {
-    let set = td.set_ciphertext(p as u64, value, answers, place);
+    let set = td.set_ciphertext_from(p as u64, value, answers, place);
     let kept = set.td;
     let outcome = set.outcome;
     match outcome {
         SetOutcome::Set => {
-            let started = kept.start_decryption(net, p as u64, answers, place, step, words);
+            let started = kept.start_decryption_from(net, p as u64, answers, place, step, words);
             numbered(started)
         }
         SetOutcome::Invalid => {
@@ -278,7 +278,7 @@ fn share_entry(
         };
     }
     let td = load_entry(epoch, n, p);
-    let handled = td.handle_message(net, p as u64, sender, share, answers, place, step, words);
+    let handled = td.handle_message_from(net, p as u64, sender, share, answers, place, step, words);
     let called = numbered(handled);
     let kept = called.td;
     let result = called.outcome;

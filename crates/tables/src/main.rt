@@ -198,7 +198,7 @@ fn write_share(
     let net = network();
     let mut place = first(answers);
     let step = begin(count, words, 0);
-    td.handle_message(net, 0, sender, handle, answers, &mut place, step, words);
+    td.handle_message_from(net, 0, sender, handle, answers, &mut place, step, words);
 }
 
 // A share of a sender for proposer 0, at an observer of four nodes: the instance afterwards.
@@ -208,7 +208,7 @@ fn share(td: ThresholdDecrypt, sender: usize, handle: u64, answers: &[u64]) -> T
     let net = network();
     let mut place = first(answers);
     let mut none = [0u64; 1];
-    let handled = td.handle_message(
+    let handled = td.handle_message_from(
         net,
         0,
         sender,
