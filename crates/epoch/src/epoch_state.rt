@@ -50,6 +50,7 @@ use steps::numbers::PROPOSE_BINCODE;
 use steps::numbers::UNEXPECTED_DECRYPTION_SHARE;
 use steps::reader::Answer;
 use steps::reader::Content;
+use steps::reader::Cursor;
 use steps::step::Step;
 use subset::subset::SubsetOutcome;
 use subset::words::ARRIVAL_FIELD;
@@ -705,10 +706,10 @@ fn input_subset(
 {
     match input {
         SubsetInput::Proposal => {
-            subset::subset::propose(epoch, net, INPUT_SUBSET, answers, place, step, words)
+            subset::subset::propose_from(epoch, net, INPUT_SUBSET, answers, place, step, words)
         }
         SubsetInput::Message(content, p) => {
-            subset::subset::handle_message(
+            subset::subset::handle_message_from(
                 epoch,
                 net,
                 HANDLE_SUBSET_MESSAGE,
@@ -770,8 +771,7 @@ fn call_subset(
     )
 }
 
-// `propose` and `handle_message_content`, by what comes: there is one way through the subset, so that the compiler has one frame for it.
-pub fn handle(
+fn handle_at(
     epoch: &mut [u64],
     net: NetworkInfo,
     strategy: SubsetHandlingStrategy,
@@ -804,6 +804,67 @@ pub fn handle(
             handle_decryption_share(epoch, net, sender, p, share, answers, place, step, words)
         }
     }
+}
+
+// `propose` and `handle_message_content`, by what comes: there is one way through the subset, so that the compiler has one frame for it.
+pub fn handle(
+    epoch: &mut [u64],
+    net: NetworkInfo,
+    strategy: SubsetHandlingStrategy,
+    encrypted: bool,
+    input: Input,
+    cursor: &mut Cursor,
+    answers: &[u64],
+    step: Step,
+    words: &mut [u64],
+) -> Ran
+    requires { ⌜ Network net × EpochWords (net .«num_nodes») (now epoch) × Listed (net .«num_nodes») (now epoch) × Comes input (net .«num_nodes») ⌝ }
+    ensures { λ r. ⌜ (left (now (epoch .exit)) r (tapeAt (now (answers .entry)) (now (cursor .exit) .place)) (now (words .exit))
+        ≡ leaves (out step (now (words .entry))) (inputRun net strategy encrypted input (now (epoch .entry)) (tapeAt (now (answers .entry)) (now (cursor .entry) .place))))
+        × (now (cursor .exit) .last ≡ now (cursor .entry) .last) ⌝ }
+{
+    handle_at(
+        epoch,
+        net,
+        strategy,
+        encrypted,
+        input,
+        answers,
+        &mut cursor.place,
+        step,
+        words,
+    )
+}
+
+pub fn handle_from(
+    epoch: &mut [u64],
+    net: NetworkInfo,
+    strategy: SubsetHandlingStrategy,
+    encrypted: bool,
+    input: Input,
+    answers: &[u64],
+    place: &mut usize,
+    step: Step,
+    words: &mut [u64],
+) -> Ran
+    requires { ⌜ Network net × EpochWords (net .«num_nodes») (now epoch) × Listed (net .«num_nodes») (now epoch) × Comes input (net .«num_nodes») ⌝ }
+    ensures { λ r. ⌜ left (now (epoch .exit)) r (tapeAt (now (answers .entry)) (now (place .exit))) (now (words .exit))
+        ≡ leaves (out step (now (words .entry))) (inputRun net strategy encrypted input (now (epoch .entry)) (tapeAt (now (answers .entry)) (now (place .entry)))) ⌝ }
+{
+    let mut cursor = steps::reader::cursor_at(answers, *place);
+    let ran = handle(
+        epoch,
+        net,
+        strategy,
+        encrypted,
+        input,
+        &mut cursor,
+        answers,
+        step,
+        words,
+    );
+    *place = cursor.place;
+    ran
 }
 
 // `EpochState::new`: an epoch whose instances have just been built.
