@@ -69,6 +69,7 @@ use denote.Triple.Table.{entered, cited}
 use denote.Triple.Walked.{says, needs, Stays, stay-ref, stay-none, stay-none-slice, gave-slice, walkOf, AllGo, goes-none, goes-none-slice, goes-ref, goes-gave-slice, Walks, ends-at, walked, walk-meets}
 use denote.Exit.{yes}"""
 
+IMPORTED = {(module, name.strip()) for module, names in re.findall(r"use ([^{}\n]*)\.\{([^}]*)\}", IMPORTS) for name in names.split(",")}
 LOGIC = "𝓤 H A at-mem run"
 GIVEN = "𝓤 H A W"
 HERE = "(from ! (stop !))"
@@ -301,7 +302,7 @@ class Value:
 
     @property
     def bracketed(self):
-        return self.x if re.fullmatch(r"[\w′]+", self.x) else f"({self.x})"
+        return self.x if re.fullmatch(r"[\w′]+|\(.*\)", self.x) else f"({self.x})"
 
 
 # ---- parameters. i: the number from 1; j: the number among the references, with lifetime κj and share qj; n: how many references
@@ -385,9 +386,42 @@ class Held(Param):
         return self.x
 
 
-class Lent:
-    """What the function lends: the place of its cursor, or its local cursor."""
-    ref = True
+class LentPlace:
+    """The place of the cursor h behind the reference: what is lent, under the name γ′ for the lifetime α, and how it comes back."""
+    ref, κ, q, last, cell = True, "α ∷ []", "fullShare", "ℕ", "CELL"
+    binders, names = "(α : ℕ) (γ′ : GName) → ", "α γ′"
+    arg, value = "record { ptr = (b, o + 0); name = γ′; now = h .place }", "vptr b (o + 0)"
+    own, keeps, lend = f"place-own {GIVEN} α b o γ′ (h .place)", f"place-lent {GIVEN} α b o h γ′", f"lend-place {GIVEN} α b o h was"
+    uses = "CursorIs, moved, last-fits, behind, place-own, place-lent, lend-place, place-back"
+
+    def now(self, moment):
+        return "h .place"
+
+    def back(self, z):
+        return f"CursorIs (moved h {z})", f"behind {GIVEN} α b o (moved h {z})", f"place-back {GIVEN} α b o h γ′ {z} was"
+
+
+class LentCursor:
+    """The cursor h in the local k; begun: that it is one."""
+    ref, κ, q, last = True, "α ∷ []", "fullShare", "Cursor"
+    begun = "(begun-is r₀ h w₀ is₀ e₀)"
+    uses = "CursorIs, place-fits, begun-is, begun-value, cell, cursor-own, cursor-lent, lend-cursor, cursor-back"
+
+    def __init__(self, k):
+        l = f"l{k}"
+        self.l, self.cell = l, f"L{k}"
+        self.binders, self.names = f"(α {l} : ℕ) (γ′ : GName) → ", f"α {l} γ′"
+        self.arg, self.value = f"record {{ ptr = ({l}, 0); name = γ′; now = h }}", f"vptr {l} 0"
+        self.own, self.keeps, self.lend = f"cursor-own {GIVEN} α {l} γ′ h", f"cursor-lent {GIVEN} α {l} γ′", f"lend-cursor {GIVEN} α {l} h {self.begun}"
+
+    def now(self, moment):
+        return "h"
+
+    def back(self, z):
+        return f"CursorIs {z}", f"cell {GIVEN} α {self.l} {z}", f"cursor-back {GIVEN} α {self.l} γ′ {z}"
+
+
+LENT = (LentPlace, LentCursor)
 
 
 # ---- the context of a walk
@@ -456,49 +490,47 @@ class Context:
 # ---- a call in a walk
 
 class Call:
-    """A call of `fn`, whose arguments are these. names: what its contract, ghost value and lemma are called."""
+    """A call of fn with these arguments. In the proof its contract is Callee, its ghost value to, what it is given Bundle, the lemma that this is
+    what it requires goes, its module g; it answers r, as the machine's value w, and leaves zs, and says e. The call that makes a cursor
+    has other names."""
 
-    def __init__(self, walk, fn, args, names, result, e):
-        self.walk, self.fn, self.args, self.result, self.e = walk, fn, args, result, e
-        self.Callee, self.to, self.Bundle, self.goes, self.g = names
-        self.lends = any(isinstance(arg, Lent) for arg in args)
-        self.κs = [arg.κ for arg in args if arg.ref]
-        self.qs = [arg.q for arg in args if arg.ref]
-        self.xs = [arg.arg if arg.ref else arg.x for arg in args]
-        self.owns = [arg.own if arg.ref else None for arg in args]
-        self.lasts = nest_type([arg.last if isinstance(arg, Lent) else "List ℕ" if isinstance(arg, Mutable) else "Unit {0}" for arg in args])
-        self.binders, self.names = (walk.lent.binders, walk.lent.names) if self.lends else ("", "")
-        self.given, self.given_names = walk.known
-        self.fact = fn.fact(fn.ensures, self.now)
+    def __init__(self, walk, fn, args, result, first):
+        self.walk, self.fn, self.args, self.result = walk, fn, args, result
+        sub = "₀" if first else ""
+        self.Callee, self.to, self.Bundle, self.goes = ("Start", "start-to", "Begun", "starts") if first else ("Callee", "to", "Bundle", "goes")
+        self.g, self.known, self.r, self.w, self.zs, self.is_, self.e = (name + sub for name in ("g", "known", "r", "w", "zs", "is", "e"))
+        self.lent = next((arg for arg in args if isinstance(arg, LENT)), None)
+        refs = [arg for arg in args if arg.ref]
+        self.κs, self.qs = [arg.κ for arg in refs], [arg.q for arg in refs]
+        self.tokens = [f"‵ (flft ({arg.κ}) {arg.q})" for arg in refs]
+        self.xs = nest([arg.arg if arg.ref else arg.x for arg in args])
+        self.lasts = nest_type([arg.last if isinstance(arg, LENT) else "List ℕ" if isinstance(arg, Mutable) else "Unit {0}" for arg in args])
+        self.binders, self.names = (self.lent.binders, self.lent.names + " ") if self.lent else ("", "")
+        self.at = f"({self.to} {self.lent.names})" if self.lent else self.to
+        self.fact = fn.fact(fn.ensures.replace("r ", f"{self.r} ", 1) if first else fn.ensures, self.now)
 
-    def left(self, k):
-        return f"(zs{nth(k)})"
+    def left_of(self, arg):
+        """What is left behind a reference that was passed."""
+        return f"({self.zs}{nth(self.args.index(arg))})"
 
     def now(self, name, moment):
         """What stands for a parameter of the callee in its contract."""
-        k = [name for name, _ in self.fn.params].index(name)
-        arg = self.args[k]
-        if moment == "exit" and isinstance(arg, (Lent, Mutable)):
-            return self.left(k)
+        arg = self.args[[name for name, _ in self.fn.params].index(name)]
+        if moment == "exit" and isinstance(arg, (*LENT, Mutable)):
+            return self.left_of(arg)
         return arg.now(moment) if arg.ref else arg.bracketed
 
-    def left_of(self, arg):
-        return self.left(self.args.index(arg))
-
     def define(self):
-        """Its ghost value; what it is given, in one bundle; and that this is what it requires."""
         w = self.walk
-        values = [f"{arg.value} ∷ []" for arg in self.args]
-        tokens = [f"‵ (flft ({κ}) {q})" for κ, q in zip(self.κs, self.qs)]
-        w.define(f"abbrev {self.to}", f"{self.binders}{self.Callee} {LOGIC} .Ghost",
-                 f"{self.names}= (({nest(self.κs)}, {nest(self.qs)}, tt, {nest(self.xs)}, {nest(values)}), tt)")
-        w.define(f"abbrev {self.Bundle}", f"{self.binders}Item 𝓤",
-                 f"{self.names}= {' ⊛ '.join(tokens + [f'‵ ({own})' for own in self.owns if own])}")
-        to, bundle = (f"({self.to} {self.names.strip()})", f"({self.Bundle} {self.names.strip()})") if self.lends else (self.to, self.Bundle)
-        w.write(f"  {self.goes} : {self.binders}{self.given}ent 𝓤 (mean 𝓤 H A {bundle}) ({self.Callee} {LOGIC} .pre {to})",
-                f"  {self.goes} {self.names}{self.given_names}=", f"      qed W ({bundle.strip('()')} ∷ []) ∵")
+        values = nest([f"{arg.value} ∷ []" for arg in self.args])
+        w.define(f"abbrev {self.to}", f"{self.binders}{self.Callee} {LOGIC} .Ghost", f"{self.names}= (({nest(self.κs)}, {nest(self.qs)}, tt, {self.xs}, {values}), tt)")
+        owns = [f"‵ ({arg.own})" for arg in self.args if arg.ref]
+        w.define(f"abbrev {self.Bundle}", f"{self.binders}Item 𝓤", f"{self.names}= {' ⊛ '.join(self.tokens + owns)}")
+        bundle = f"{self.Bundle} {self.names}".strip()
+        w.write(f"  {self.goes} : {self.binders}{w.was} → ent 𝓤 (mean 𝓤 H A ({bundle})) ({self.Callee} {LOGIC} .pre {self.at})",
+                f"  {self.goes} {self.names}was =", f"      qed W ({bundle} ∷ []) ∵")
         c = Context(["B"])
-        labels = [f"tok{k}" for k in range(len(tokens))] + [f"own{k}" for k, own in enumerate(self.owns) if own]
+        labels = [f"tok{k}" for k in range(len(self.tokens))] + [f"own{k}" for k, arg in enumerate(self.args) if arg.ref]
         for label in labels[:-1]:
             c.split("B", label, "B")
         c.rename("B", labels[-1])
@@ -510,7 +542,7 @@ class Call:
                 c.do(arg.made, makes=[f"own{k}"])
             c.fjoin(f"own{k}", "O", "O")
         c.do("nothing !", makes=["K"])
-        for k in reversed(range(len(tokens))):
+        for k in reversed(range(len(self.tokens))):
             c.join(f"tok{k}", "K", "K")
         if self.fn.requires:
             c.frame("K")
@@ -519,41 +551,41 @@ class Call:
             c.frame("KO")
         w.write(c.text("      ", "done !"), "")
 
-    def make(self, c, operands, r, w, zs, is_):
-        """The call in the walk: the bundle, the call, and what it answers and leaves, by these names."""
-        tokens, have = [], []
-        for arg in self.args:
-            if arg.ref:
-                tokens.append("tokα" if isinstance(arg, Lent) else f"tok{arg.j}")
-                have.append(tokens[-1])
-        for arg in self.args:
+    def make(self, c, operands):
+        """The call in the walk: what it is given in one bundle, the call, and what it answers, says and leaves."""
+        r, w, zs, O = self.r, self.w, self.zs, self.result
+        if self.lent:  # a lifetime for the call
+            c.bind("lft-new ! tt (λ α.", makes=["tokα"])
+            c.bind(f"use1 W (later (some (λ (γ′ : GName). ‵ ({self.lent.own}) ⊛ {self.lent.keeps}))) ({self.lent.lend}) $ await ! tt $ pick ! (λ γ′.", [self.lent.cell], ["OL"])
+            c.split("OL", "ownL", "LENT")
+        refs = [arg for arg in self.args if arg.ref]
+        tokens = ["tokα" if arg is self.lent else f"tok{arg.j}" for arg in refs]
+        have = list(tokens)
+        for arg in refs:
             if isinstance(arg, Shared):
                 c.do(f"use1 W (‵ ({arg.own}) ⊛ ‵ ({arg.own})) (shr-slice-copy 𝓤 H A W (named {arg.j}) {arg.κ} u64 .twice s{arg.i} ({arg.value} ∷ []))",
                      [f"own{arg.i}"], [f"own{arg.i}"])
                 c.split(f"own{arg.i}", f"own{arg.i}", f"copy{arg.i}")
                 have.append(f"copy{arg.i}")
-            elif arg.ref:
-                have.append("ownL" if isinstance(arg, Lent) else f"own{arg.i}")
+            else:
+                have.append("ownL" if arg is self.lent else f"own{arg.i}")
         bundle = have.pop()
         for label in reversed(have):
             c.join(label, bundle, "BU")
             bundle = "BU"
-        to = f"({self.to} {self.names.strip()})" if self.lends else self.to
-        c.do(f"use1 W (raw ({self.Callee} {LOGIC} .pre {to})) ({self.goes} {self.names}{self.given_names.strip()})", [bundle], ["BU"])
-        c.bind(f"calls-at ! fm ({self.Callee} {LOGIC}) {self.known} {to} {operands()} (λ {w}.")
-        κs, xs = nest(self.κs), nest(self.xs)
-        held = " ⊛ ".join([f"‵ (flft ({κ}) {q})" for κ, q in zip(self.κs, self.qs)] + ["‵ ftrue"])
-        c.bind(f"use1 W (later (some (λ ({r} : {self.result.name}). (({held}) ⊛ ‵ ({self.result.row} .own {r} ({w} ∷ []))) "
-               f"⊛ raw (ensured 𝓤 H A {self.g}.ended ({self.g}.clauses {LOGIC}) {κs} {xs} tt {r})))) (id⊢ 𝓤 _) $ await ! tt $ pick ! (λ {r}.", ["BU"], ["TE"])
+        c.do(f"use1 W (raw ({self.Callee} {LOGIC} .pre {self.at})) ({self.goes} {self.names}was)", [bundle], ["BU"])
+        c.bind(f"calls-at ! fm ({self.Callee} {LOGIC}) {self.known} {self.at} {operands()} (λ {w}.")
+        κs, held = nest(self.κs), " ⊛ ".join([*self.tokens, "‵ ftrue"])
+        c.bind(f"use1 W (later (some (λ ({r} : {O.name}). (({held}) ⊛ ‵ ({O.row} .own {r} ({w} ∷ []))) "
+               f"⊛ raw (ensured 𝓤 H A {self.g}.ended ({self.g}.clauses {LOGIC}) {κs} {self.xs} tt {r})))) (id⊢ 𝓤 _) $ await ! tt $ pick ! (λ {r}.", ["BU"], ["TE"])
         c.split("TE", "TR", "ENS")
-        c.bind(f"use1 W (some (λ ({zs} : {self.lasts}). ‵ (lasts {self.g}.ended {κs} {xs} {zs}) ⊛ raw (fact 𝓤 ({self.told(r, zs)})))) (id⊢ 𝓤 _) $ pick ! (λ {zs}.",
-               ["ENS"], ["LF"])
+        c.bind(f"use1 W (some (λ ({zs} : {self.lasts}). ‵ (lasts {self.g}.ended {κs} {self.xs} {zs}) ⊛ raw (fact 𝓤 ({self.fact})))) (id⊢ 𝓤 _) $ pick ! (λ {zs}.", ["ENS"], ["LF"])
         c.split("LF", "LA", "FA")
-        c.bind(f"heard ! ({self.told(r, zs)}) (λ {self.e}.", ["FA"])
+        c.bind(f"heard ! ({self.fact}) (λ {self.e}.", ["FA"])
         for arg in self.args:
             c.fsplit("LA", "LK", "LA")
-            if isinstance(arg, Lent):
-                c.rename("LK", "RES")
+            if arg is self.lent:
+                c.rename("LK", "LAST")
             elif isinstance(arg, Mutable):
                 c.fsplit("LK", f"fin{arg.i}", "LEN")
                 c.bind(f"feqL ! (λ len{arg.i}.", ["LEN"])
@@ -564,18 +596,19 @@ class Call:
         for token in tokens:
             c.split("TT", token, "TT")
         c.drop("TT")
-        c.bind(f"peeks ! {self.result.row} (Is {self.result.row}) (shows 𝓤 H A {self.result.row}) {r} ({w} ∷ []) (λ {is_}.", ["OR"], ["OR"])
+        c.bind(f"peeks ! {O.row} (Is {O.row}) (shows 𝓤 H A {O.row}) {r} ({w} ∷ []) (λ {self.is_}.", ["OR"], ["OR"])
         c.drop("OR")
-
-    def told(self, r, zs):
-        return re.sub(r"(?<![\w.])(r|zs)(?!\w)", lambda m: {"r": r, "zs": zs}[m[1]], self.fact)
+        if self.lent:  # the lifetime ends, and what was lent comes back
+            fact, cell, law = self.lent.back(self.left_of(self.lent))
+            c.do("lft-end ! tt", ["tokα"], ["DEAD"])
+            c.bind(f"use3 W (later (given ({fact}) (‵ ({cell})))) ({law}) $ await ! tt $ learn ! (λ isC.", ["DEAD", "LENT", "LAST"], [self.lent.cell])
 
 
 # ---- a walk
 
 class Walk:
     def __init__(self, fn, items):
-        self.fn, self.lines, self.known = fn, [], ("", "")
+        self.fn, self.lines = fn, []
         self.lending = fn.form() == "lent"  # lends the place of a cursor; else a cursor at a place
         self.cursor = Declared("steps", ["reader"], "Cursor").named("T")
         self.types = [self.cursor]
@@ -597,8 +630,6 @@ class Walk:
         self.result = self.type(fn.result)
         item = items["::".join([fn.crate, *fn.path])]
         self.count, self.body = len(mir_list(item[4])), statements(item[5])
-        self.calls = [b for b in self.body if b[0] == "call"]
-        self.items = items
 
     def type(self, text):
         if text in ("u64", "usize"):
@@ -640,83 +671,57 @@ class Walk:
 
     def prepare(self):
         """The calls, with what their arguments are, by going through the statements."""
-        h = self.held
+        usize = Number("usize")
         if self.lending:
-            self.lent = Lent()
-            self.lent.κ, self.lent.q, self.lent.last = "α ∷ []", "fullShare", "ℕ"
-            self.lent.arg, self.lent.value = "record { ptr = (b, o + 0); name = γ′; now = h .place }", "vptr b (o + 0)"
-            self.lent.own = f"place-own {GIVEN} α b o γ′ (h .place)"
-            self.lent.binders, self.lent.names = "(α : ℕ) (γ′ : GName) → ", "α γ′ "
-            self.lent.now = lambda moment: "h .place"
-            self.was = "CursorIs h"
-            self.last = Value(Number("usize"), "h .last", "(refl, last-fits h was)")
+            self.lent, self.was = LentPlace(), "CursorIs h"
+            self.read = {1: Value(usize, "h .last", "(refl, last-fits h was)")}  # of what is held, by field
         else:
-            self.start = next(p for p in self.shrs if p.i == place(mir_list(self.calls[0][2])[0][1])[0])
-            self.lent = Lent()
-            self.lent.κ, self.lent.q, self.lent.last = "α ∷ []", "fullShare", "Cursor"
-            self.lent.arg, self.lent.value = "record { ptr = (l, 0); name = γ′; now = h }", "vptr l 0"
-            self.lent.own = f"cursor-own {GIVEN} α l γ′ h"
-            self.lent.binders, self.lent.names = "(α l : ℕ) (γ′ : GName) → ", "α l γ′ "
-            self.lent.now = lambda moment: "h"
-            self.was = "Is usize p (vint w64 p ∷ [])"
-            self.place = Value(Number("usize"), "p", "was")
-        self.known = (f"{self.was} → ", "was ")
-        self.hold = {p.i: p.held for p in self.params}
-        self.made = []
+            local = next(place(b[2][1])[0] for b in self.body if b[0] == "assign" and b[2][0] == "addrOf" and not place(b[2][1])[1])
+            self.lent, self.was = LentCursor(local), "Is usize p (vint w64 p ∷ [])"
+            self.read = {None: Value(usize, "p", "was")}
+        holds, self.made = {p.i: p.held for p in self.params}, []
         for b in self.body:
-            if b == "return":
-                continue
-            if b[0] == "assign":
-                self.hold[place(b[1])[0]] = self.source(b[2])
-            elif b[0] == "call":
-                fn, args = self.callee(b), [self.hold[place(a[1])[0]] for a in mir_list(b[2])]
-                if not self.lending and not self.made:
-                    names, result = ("Start", "start-to", "Begun", "starts", "g₀"), self.cursor
-                else:
-                    names, result = ("Callee", "to", "Bundle", "goes", "g"), self.result
-                call = Call(self, fn, args, names, result, "e₀" if names[0] == "Start" else "e")
-                call.known = "known₀" if names[0] == "Start" else "known"
-                self.made.append(call)
-                self.hold[place(b[3])[0]] = result
-            else:
+            if b != "return" and b[0] == "assign":
+                holds[place(b[1])[0]] = self.source(b[2], holds)
+            elif b != "return" and b[0] == "call":
+                first = not self.lending and not self.made
+                args = [holds[place(a[1])[0]] for a in mir_list(b[2])]
+                self.made.append(Call(self, self.callee(b), args, self.cursor if first else self.result, first))
+            elif b != "return":
                 die(f"{self.fn.name} is of neither form: its MIR has {b[0]}")
-        self.last_call = self.made[-1]
-        self.left = self.last_call.left_of(self.lent)
-        # the value behind the reference that is held, at exit
-        self.ends = f"(moved h {self.left})" if self.lending else f"({self.left} .place)"
+        self.call = self.made[-1]
+        left = self.call.left_of(self.lent)
+        # what is behind the reference that is held, at exit
+        if self.lending:
+            self.ends = Value(self.cursor, f"(moved h {left})", "isC")
+        else:
+            self.ends = Value(usize, f"({left} .place)", f"(refl, place-fits {left} isC)")
+        self.answer = Value(self.result, "r", self.result.again("r", "(w ∷ [])", "is"))
 
-    def source(self, value):
+    def source(self, value, holds):
         """What an assignment's right side is, as an argument of a call."""
-        if value[0] == "addrOf":
-            local, steps = place(value[1])
-            return self.lent if steps in ([], ["*", 0]) and (local == self.held.i or not steps) else self.hold[local]
         if value[0] == "aggregate":
-            return self.hold[place(mir_list(value[1])[1][1])[0]]
-        local, steps = place(value[1][1])
-        if (local, steps) == (self.held.i, ["*", 1]):
-            return self.last
-        if (local, steps) == (self.held.i, ["*"]):
-            return self.place
-        return self.hold.get(local)
+            return holds[place(mir_list(value[1])[1][1])[0]]
+        local, steps = place(value[1] if value[0] == "addrOf" else value[1][1])
+        if value[0] == "addrOf":
+            return self.lent if not steps or local == self.held.i else holds[local]
+        if local == self.held.i:
+            return self.read[steps[1] if steps[1:] else None]
+        return holds.get(local)
 
     def head(self):
-        fn, call = self.fn, self.last_call.fn
+        fn, call = self.fn, self.call.fn
         how = (f"the borrow is opened, the cursor's place is lent to `{call.name}` and comes back, and the borrow is closed"
                if self.lending else f"the cursor at the place is made in a local, lent to `{call.name}` and comes back, and its place is stored")
         self.write(f"-- `{fn.name}` meets its contract, by a walk of its MIR: {how}.", f"-- {WRITTEN} Assumes nothing.", IMPORTS)
-        uses = []
-        ghosts = fn.source.ghosts()
-        texts = " ".join([*(call.fact for call in self.made), self.pre()])
-        for name, module in ghosts.items():
-            if "_" not in name and re.search(rf"(?<![.\w·«]){name}(?![\w·»′-])", texts):
-                uses.append(f"{module}.{{{name}}}")
-        for name, module in self.cursor_at_uses():
-            uses.append(f"{module}.{{{name}}}")
+        facts = " ".join([*(call.fact for call in self.made), self.pre()])
+        uses = [f"{module}.{{{name}}}" for name, module in fn.source.ghosts().items()
+                if "_" not in name and (module, name) not in IMPORTED and re.search(rf"(?<![.\w·«]){name}(?![\w·»′-])", facts)]
+        if not self.lending:
+            uses.append(f"Rattle.steps{'·specs.specs' if fn.crate == 'steps' else '.specs'}.Answers.{{cursorAt}}")
         for type_ in self.types:
             uses += type_.uses(fn.crate)
-        lent = "CursorIs, moved, last-fits, behind, place-own, place-lent, lend-place, place-back" if self.lending else \
-            "CursorIs, place-fits, begun-is, begun-value, cell, cursor-own, cursor-lent, lend-cursor, cursor-back"
-        uses.append(f"Rattle.steps{'·proofs' if fn.crate == 'steps' else ''}.proofs.LentCursor.{{{lent}}}")
+        uses.append(f"Rattle.steps{'·proofs' if fn.crate == 'steps' else ''}.proofs.LentCursor.{{{self.lent.uses}}}")
         for call in self.made:
             base = call.fn.module(fn.crate)
             uses += [f"{base} as {call.g}", f"{base}.Symbol as {call.g}-def", f"{base}.Symbol.{{name as {call.fn.key}}}", f"{base}.Met as {call.g}-thm"]
@@ -728,23 +733,18 @@ class Walk:
             self.define(f"abbrev {call.Callee}", "{M : Type 1} (𝓤 : URA M) (H : Heap 𝓤) (A : Atoms 𝓤) (mem : Memory → SProp 𝓤) (run : Routine → Fun 𝓤) → Contract 𝓤",
                         f"𝓤 H A mem run = tripleOf 𝓤 H A {call.g}.signature ({call.g}.spec 𝓤 H A mem run)", "")
 
-    def cursor_at_uses(self):
-        if self.lending:
-            return []
-        return [("cursorAt", f"Rattle.steps{'·specs.specs' if self.fn.crate == 'steps' else '.specs'}.Answers")]
-
     def pre(self):
-        return self.fn.fact(self.fn.requires, lambda name, moment: next(p for p in self.params if p.name == name).now(moment)) if self.fn.requires else ""
+        return self.fn.fact(self.fn.requires, lambda name, moment: next(p for p in self.params if p.name == name).now(moment))
 
     def module(self):
-        """The module over all that the function is given; x, at: its arguments; Post: what it must leave."""
+        """The module over all that the function is given. x, at: its arguments; Post: what it must leave; h: the cursor."""
         self.κs, self.qs = nest([p.κ for p in self.refs]), nest([p.q for p in self.refs])
         logic = "{M : Type 1} (𝓤 : URA M) (H : Heap 𝓤) (A : Atoms 𝓤) (W : Given 𝓤 H A) (at-mem : Memory → SProp 𝓤) (run : Routine → Fun 𝓤)"
         lifetimes = f"({' '.join(p.κ for p in self.refs)} : Lft) ({' '.join(p.q for p in self.refs)} : Share)"
         pre = [f"(ok : {self.pre()})"] if self.fn.requires else []
         self.write(" ".join(["module _", logic, lifetimes, *(p.binders for p in self.params), *pre, "where"]))
         if not self.lending:
-            self.define("abbrev h", "Cursor", f"= cursorAt (now s{self.start.i}) p")
+            self.define("abbrev h", "Cursor", f"= cursorAt ({self.made[0].args[0].now('')}) p")
         self.define("abbrev x", nest_type([p.type for p in self.params]), "= " + nest([p.arg for p in self.params]))
         self.define("abbrev at", nest_type(["List Val"] * len(self.params)), "= " + nest([f"{p.value} ∷ []" for p in self.params]))
         self.bound = f"(({self.κs}, {self.qs}, tt, x, at), tt)"
@@ -752,21 +752,20 @@ class Walk:
 
     def exits(self):
         """From what is left at the end to Post."""
-        h, O, call = self.held, self.result, self.last_call
-        self.lens = {p.i: call.left_of(p) for p in self.muts}
-        lengths = "".join(f" (len{p.i} : length {self.lens[p.i]} ≡ length y{p.i})" for p in self.muts)
-        self.length_names = "".join(f" len{p.i}" for p in self.muts)
-        items = [f"‵ (fobs γ ({h.of.row} .coded .code {self.ends}))", f"‵ (fbor {h.κ} (Body (mem {h.of.row}) b o γ))"]
+        h, O, call, ends = self.held, self.result, self.call, self.ends.x
+        left = {p.i: call.left_of(p) for p in self.muts}
+        lengths = "".join(f" (len{p.i} : length {left[p.i]} ≡ length y{p.i})" for p in self.muts)
+        self.lengths = "".join(f" len{p.i}" for p in self.muts)
+        items = [f"‵ (fobs γ ({h.of.row} .coded .code {ends}))", f"‵ (fbor {h.κ} (Body (mem {h.of.row}) b o γ))"]
         items += [f"‵ (flft {p.κ} {p.q})" for p in self.refs]
-        items += [f"‵ ({p.own})" for p in self.shrs] + [f"‵ (finally u64 γ{p.i} {self.lens[p.i]})" for p in self.muts]
-        labels = ["OBS", "BOR"] + [f"tok{p.j}" for p in self.refs] + [f"own{p.i}" for p in self.shrs] + [f"fin{p.i}" for p in self.muts]
-        self.at_exit = labels
+        items += [f"‵ ({p.own})" for p in self.shrs] + [f"‵ (finally u64 γ{p.i} {left[p.i]})" for p in self.muts]
+        self.at_exit = ["OBS", "BOR"] + [f"tok{p.j}" for p in self.refs] + [f"own{p.i}" for p in self.shrs] + [f"fin{p.i}" for p in self.muts]
         word = O.value("r")
         self.write(f"  exits : (r : {O.name}) (zs : {call.lasts}){lengths} → {call.fact} → Is {O.row} r ({word} ∷ []) → ent 𝓤 (⋆ 𝓤 H A ({chain(items)})) (Post ({word}))",
-                   f"  exits r zs{self.length_names} e is =", f"      qed W ({chain(items)}) ∵")
-        lasts = nest([self.lens[p.i] if isinstance(p, Mutable) else self.ends if p is h else "tt" for p in self.params])
+                   f"  exits r zs{self.lengths} e is =", f"      qed W ({chain(items)}) ∵")
+        lasts = nest([left[p.i] if isinstance(p, Mutable) else ends if p is h else "tt" for p in self.params])
         fits = nest([f"len{p.i}" if isinstance(p, Mutable) else "tt" for p in self.params])
-        c = Context(labels)
+        c = Context(self.at_exit)
         c.do(f"suffices ! _ (ends-at 𝓤 H A f.ended stayed (f.clauses {LOGIC}) W {self.bound} ({word}) r {lasts} {fits})")
         c.do(f"says ! {'(e, refl)' if self.lending else '(e .0)'}")
         c.do("nothing !", makes=["K"])
@@ -797,7 +796,7 @@ class Walk:
                    "    walk =",
                    f"        qed W (({tokens}) ∷ ‵ (owns ({chain(p.row for p in self.params)}) x at) ∷ []) ∵ enter ! C Λ code.function ({values}) _ $")
         self.c = Context(["TOKS", "OWNS"])
-        self.state = {p.i: p.held for p in self.params}  # what each local holds: typed
+        self.typed = {p.i: p.typed for p in self.params}  # of each local that holds something: that its machine value is of its type
         self.enter()
         calls = iter(self.made)
         for b in self.body:
@@ -806,7 +805,7 @@ class Walk:
             elif b[0] == "assign":
                 self.assign(place(b[1]), b[2])
             else:
-                self.call(next(calls), [place(a[1])[0] for a in mir_list(b[2])], place(b[3])[0])
+                self.answered(next(calls), [place(a[1])[0] for a in mir_list(b[2])], place(b[3])[0])
         self.write(self.c.text("        ", end), "")
 
     def local(self, k):
@@ -817,7 +816,8 @@ class Walk:
 
     def into(self, k, typed):
         """Into a local: the first time it is room, then it is overwritten."""
-        step = "store" if k in self.state else "init"
+        step = "store" if k in self.typed else "init"
+        self.typed[k] = typed
         return f"{HERE} ({step} ! {self.local(k)} refl {typed})"
 
     def enter(self):
@@ -849,41 +849,34 @@ class Walk:
 
     def assign(self, to, value):
         c, h = self.c, self.held
-        behind = lambda rest: f"(from ! (hop ! {self.look(h.i)} {rest}))"
-        if to == (h.i, ["*"]):  # *place = cursor.place
-            held = self.state[place(value[1][1])[0]]
-            c.do(f"assigns ! (of-opd ! (load ! {HERE} {self.look(place(value[1][1])[0])})) {behind('(stop !)')} (store-raw ! {c.at('CELL')} refl {held.typed})")
-            return
-        k = to[0]
-        if value[0] == "addrOf":
-            local, steps = place(value[1])
-            if steps == ["*", 0] and local == h.i:  # &mut cursor.place
-                right, held = f"(addr ! {behind('(fld ! refl (stop !))')})", h
-            elif not steps:                         # &mut cursor, the local
-                right, held = f"(addr ! {HERE})", h
-                self.lent_local = local
-            else:                                   # of a slice's first word: &(*_s.0)
-                inside = f"(look-in ! {self.local(local)} (sub ! 0 refl (whole !)))"
-                right, held = f"(addr ! (from ! (fld ! refl (hop ! {inside} (stop !)))))", h
-            typed = "(tt, tt)"
-        elif value[0] == "aggregate":               # a slice anew: its first word, and the old one's length
+        behind = lambda steps: f"(from ! (hop ! {self.look(h.i)} {steps}))"
+        inside = lambda label, k: f"(look-in ! {c.at(label)} (sub ! {k} refl (whole !)))"
+        field, stop = "(fld ! refl (stop !))", "(stop !)"
+        if value[0] == "aggregate":  # a slice anew: its first word, and the old one's length
             first, old = (place(x[1])[0] for x in mir_list(value[1]))
-            length = f"(and-then ! (load ! (from ! (fld ! refl (stop !))) (look-in ! {self.local(old)} (sub ! 1 refl (whole !)))) (no-more !))"
-            right, held = f"(agg ! (and-then ! (load ! {HERE} {self.look(first)}) {length}))", self.state[old]
-            typed = held.typed
+            length = f"(load ! (from ! {field}) {inside(f'L{old}', 1)})"
+            right, typed = f"(agg ! (and-then ! (load ! {HERE} {self.look(first)}) (and-then ! {length} (no-more !))))", self.typed[old]
+        elif value[0] == "addrOf":
+            local, steps = place(value[1])
+            if not steps:            # the local cursor
+                where = HERE
+            elif local == h.i:       # the place of the cursor
+                where = behind(field)
+            else:                    # the first word of a slice
+                where = f"(from ! (fld ! refl (hop ! {inside(f'L{local}', 0)} {stop})))"
+            right, typed = f"(addr ! {where})", "(tt, tt)"
         else:
             local, steps = place(value[1][1])
-            if (local, steps) == (h.i, ["*", 1]):   # cursor.last
-                read, held = f"{behind('(fld ! refl (stop !))')} (look-in ! {c.at('CELL')} (sub ! 1 refl (whole !)))", self.last
-            elif (local, steps) == (h.i, ["*"]):    # *place
-                read, held = f"{behind('(stop !)')} (look-raw ! {c.at('CELL')} refl)", self.place
-            elif steps == [0]:                      # cursor.place of the local
-                read, held = f"(from ! (fld ! refl (stop !))) (look-in ! {self.local(local)} (sub ! 0 refl (whole !)))", self.place_left
+            if local == h.i:         # the last index of the cursor, or the place
+                k = steps[1] if steps[1:] else None
+                read, typed = f"{behind(stop)} (look-raw ! {c.at('CELL')} refl)" if k is None else f"{behind(field)} {inside('CELL', k)}", self.read[k].typed
+            elif steps:              # the place of the local cursor
+                read, typed = f"(from ! {field}) {inside(f'L{local}', 0)}", self.ends.typed
             else:
-                read, held = f"{HERE} {self.look(local)}", self.state[local]
-            right, typed = f"(of-opd ! (load ! {read}))", held.typed
-        c.do(f"assigns ! {right} {self.into(k, typed)}")
-        self.state[k] = held
+                read, typed = f"{HERE} {self.look(local)}", self.typed[local]
+            right = f"(of-opd ! (load ! {read}))"
+        into = f"{behind(stop)} (store-raw ! {c.at('CELL')} refl {typed})" if to[1] else self.into(to[0], typed)
+        c.do(f"assigns ! {right} {into}")
 
     def operands(self, locals_):
         text = "(no-more !)"
@@ -891,59 +884,24 @@ class Walk:
             text = f"(and-then ! (load ! {HERE} {self.look(k)}) {text})"
         return text
 
-    def call(self, call, args, to):
-        c, h = self.c, self.held
+    def answered(self, call, args, to):
+        """A call, and what it answers in its local."""
+        c, O = self.c, call.result
         c.line(f"-- the call of {call.fn.name}")
-        start = call.Callee == "Start"
-        if call.lends:  # a lifetime for the call, and what is lent for it
-            c.bind("lft-new ! tt (λ α.", makes=["tokα"])
-            if self.lending:
-                own, lent, lend = f"place-own {GIVEN} α b o γ′ (h .place)", f"place-lent {GIVEN} α b o h γ′", f"lend-place {GIVEN} α b o h was"
-                cell = "CELL"
-            else:
-                l = f"l{self.lent_local}"
-                own, lent, lend = f"cursor-own {GIVEN} α {l} γ′ h", f"cursor-lent {GIVEN} α {l} γ′", f"lend-cursor {GIVEN} α {l} h {self.begun}"
-                cell = f"L{self.lent_local}"
-                for arg in (self.lent,):
-                    arg.arg, arg.own = arg.arg.replace("(l, 0)", f"({l}, 0)"), own
-                call.xs = [self.lent.arg if a is self.lent else x for a, x in zip(call.args, call.xs)]
-                call.names = f"α {l} γ′ "
-            c.bind(f"use1 W (later (some (λ (γ′ : GName). ‵ ({own}) ⊛ {lent}))) ({lend}) $ await ! tt $ pick ! (λ γ′.", [cell], ["OL"])
-            c.split("OL", "ownL", "LENT")
-        r, w, zs, is_ = ("r₀", "w₀", "zs₀", "is₀") if start else ("r", "w", "zs", "is")
-        call.given_names = "was "
-        call.make(c, lambda: self.operands(args), r, w, zs, is_)
-        if call.lends:
-            c.do("lft-end ! tt", ["tokα"], ["DEAD"])
-            z = self.left
-            if self.lending:
-                back, cell = f"CursorIs (moved h {z})", f"behind {GIVEN} α b o (moved h {z})"
-                law, label = f"place-back {GIVEN} α b o h γ′ {z} was", "CELL"
-            else:
-                back, cell = f"CursorIs {z}", f"cell {GIVEN} α {l} {z}"
-                law, label = f"cursor-back {GIVEN} α {l} γ′ {z}", f"L{self.lent_local}"
-            c.bind(f"use3 W (later (given ({back}) (‵ ({cell})))) ({law}) $ await ! tt $ learn ! (λ isC.", ["DEAD", "LENT", "RES"], [label])
-            if not self.lending:
-                self.place_left = Value(Number("usize"), f"{z} .place", f"(refl, place-fits {z} isC)")
-        O = call.result
-        c.do(f"land ! {self.into(to, f'({O.lawful} .typed {r} _ {is_} .0)')}")
-        tells = f"begun-value {r} h {w} {is_} {call.e}" if start else f"ap only ({O.tells} {r} ({w} ∷ []) {is_})"
-        c.do(f"rewrite ! {self.local(to)} (λ (u : Val). ‵ (fat fullShare {O.mir} l{to} 0 u)) ({tells}) refl")
-        if start:
-            self.begun = f"(begun-is {r} h {w} {is_} {call.e})"
-            self.state[to] = Value(self.cursor, "h", self.begun)
+        call.make(c, lambda: self.operands(args))
+        c.do(f"land ! {self.into(to, f'({O.lawful} .typed {call.r} _ {call.is_} .0)')}")
+        if call is self.call:
+            value, self.typed[to] = f"ap only ({O.tells} r (w ∷ []) is)", self.answer.typed
         else:
-            self.state[to] = Value(O, "r", O.again("r", "(w ∷ [])", "is"))
-            self.again = O.again("r", "(w ∷ [])", "is")
+            value, self.typed[to] = "begun-value r₀ h w₀ is₀ e₀", Value(O, "h", self.lent.begun).typed
+        c.do(f"rewrite ! {self.local(to)} (λ (u : Val). ‵ (fat fullShare {O.mir} l{to} 0 u)) ({value}) refl")
         c.note()
 
     def leave(self):
         """The borrow closed, and the locals given back; what is left is in the order of `exits`."""
-        c, h = self.c, self.held
-        is_ = "isC" if self.lending else self.place_left.is_
-        value = h.of.value(self.ends)
-        c.do(f"owned ! {h.of.row} (Is {h.of.row}) ({h.of.makes}) {self.ends} _ {is_}", makes=["OC"])
-        c.do(f"closes ! tt {h.of.row} {self.ends} ({value} ∷ []) b o", ["CELL", "OC", "OBOR", "OBS", "AUTH"], ["OBS", "BOR", f"tok{h.j}"])
+        c, h, ends = self.c, self.held, self.ends
+        c.do(ends.made, makes=["OC"])
+        c.do(f"closes ! tt {h.of.row} {ends.x} ({ends.value} ∷ []) b o", ["CELL", "OC", "OBOR", "OBS", "AUTH"], ["OBS", "BOR", f"tok{h.j}"])
         c.note()
         c.do(f"returns ! {self.look(0)}")
         for k in reversed(range(self.count)):
@@ -954,7 +912,7 @@ class Walk:
         c.move(*self.at_exit)
         if c.labels != self.at_exit:
             c.do(f"keep ! ({chain(str(c.at(label)) for label in self.at_exit)})")
-        return f"by ! (exits r zs{self.length_names} e {self.again})"
+        return f"by ! (exits r zs{self.lengths} e {self.answer.is_})"
 
     def close(self):
         """The lines that are the same for each function, but for its parameters."""

@@ -113,20 +113,20 @@ module _ {M : Type 1} (𝓤 : URA M) (H : Heap 𝓤) (A : Atoms 𝓤) (W : Given
   abbrev Begun : Item 𝓤
   Begun = ‵ (flft (κ1) q1) ⊛ ‵ (ShrSlice (named 1) κ1 u64 .own (s6) (sliceVal (s6 .ptr) (length (s6 .now)) ∷ []))
 
-  starts : Is usize p (vint w64 p ∷ []) → ent 𝓤 (mean 𝓤 H A Begun) (Start 𝓤 H A at-mem run .pre start-to)
+  starts : Is usize p (vint w64 p ∷ []) → ent 𝓤 (mean 𝓤 H A (Begun)) (Start 𝓤 H A at-mem run .pre start-to)
   starts was =
       qed W (Begun ∷ []) ∵
       split ! $ nothing ! $ owned ! usize (Is usize) (uint-makes 𝓤 H A W w64) p _ was $ fjoin ! $ move ! (2 ∷ 0 ∷ []) $ fjoin ! $ nothing ! $ move ! (2 ∷ 0 ∷ []) $ join ! $ join ! $ frame ! $ done !
 
-  abbrev to : (α l : ℕ) (γ′ : GName) → Callee 𝓤 H A at-mem run .Ghost
-  to α l γ′ = (((κ0, (α ∷ [], (κ1, (κ3, tt)))), (q0, (fullShare, (q1, (q3, tt)))), tt, (record { ptr = (b1, o1); name = γ1; now = y1 }, (x2, (x3, (x4, (x5, (record { ptr = (l, 0); name = γ′; now = h }, (s6, (x8, (record { ptr = (b9, o9); name = γ9; now = y9 }, tt))))))))), (sliceVal (b1, o1) (length y1) ∷ [], (LL.val S1.the-type S1′.the-laws x2 ∷ [], (EL.val S2.the-type S2′.the-laws x3 ∷ [], (vbool x4 ∷ [], (EL.val S3.the-type S3′.the-laws x5 ∷ [], (vptr l 0 ∷ [], (sliceVal (s6 .ptr) (length (s6 .now)) ∷ [], (LL.val S4.the-type S4′.the-laws x8 ∷ [], (sliceVal (b9, o9) (length y9) ∷ [], tt)))))))))), tt)
+  abbrev to : (α l10 : ℕ) (γ′ : GName) → Callee 𝓤 H A at-mem run .Ghost
+  to α l10 γ′ = (((κ0, (α ∷ [], (κ1, (κ3, tt)))), (q0, (fullShare, (q1, (q3, tt)))), tt, (record { ptr = (b1, o1); name = γ1; now = y1 }, (x2, (x3, (x4, (x5, (record { ptr = (l10, 0); name = γ′; now = h }, (s6, (x8, (record { ptr = (b9, o9); name = γ9; now = y9 }, tt))))))))), (sliceVal (b1, o1) (length y1) ∷ [], (LL.val S1.the-type S1′.the-laws x2 ∷ [], (EL.val S2.the-type S2′.the-laws x3 ∷ [], (vbool x4 ∷ [], (EL.val S3.the-type S3′.the-laws x5 ∷ [], (vptr l10 0 ∷ [], (sliceVal (s6 .ptr) (length (s6 .now)) ∷ [], (LL.val S4.the-type S4′.the-laws x8 ∷ [], (sliceVal (b9, o9) (length y9) ∷ [], tt)))))))))), tt)
 
-  abbrev Bundle : (α l : ℕ) (γ′ : GName) → Item 𝓤
-  Bundle α l γ′ = ‵ (flft (κ0) q0) ⊛ ‵ (flft (α ∷ []) fullShare) ⊛ ‵ (flft (κ1) q1) ⊛ ‵ (flft (κ3) q3) ⊛ ‵ (MutSlice (named 0) κ0 u64 .own (record { ptr = (b1, o1); name = γ1; now = y1 }) (sliceVal (b1, o1) (length y1) ∷ [])) ⊛ ‵ (cursor-own 𝓤 H A W α l γ′ h) ⊛ ‵ (ShrSlice (named 1) κ1 u64 .own (s6) (sliceVal (s6 .ptr) (length (s6 .now)) ∷ [])) ⊛ ‵ (MutSlice (named 3) κ3 u64 .own (record { ptr = (b9, o9); name = γ9; now = y9 }) (sliceVal (b9, o9) (length y9) ∷ []))
+  abbrev Bundle : (α l10 : ℕ) (γ′ : GName) → Item 𝓤
+  Bundle α l10 γ′ = ‵ (flft (κ0) q0) ⊛ ‵ (flft (α ∷ []) fullShare) ⊛ ‵ (flft (κ1) q1) ⊛ ‵ (flft (κ3) q3) ⊛ ‵ (MutSlice (named 0) κ0 u64 .own (record { ptr = (b1, o1); name = γ1; now = y1 }) (sliceVal (b1, o1) (length y1) ∷ [])) ⊛ ‵ (cursor-own 𝓤 H A W α l10 γ′ h) ⊛ ‵ (ShrSlice (named 1) κ1 u64 .own (s6) (sliceVal (s6 .ptr) (length (s6 .now)) ∷ [])) ⊛ ‵ (MutSlice (named 3) κ3 u64 .own (record { ptr = (b9, o9); name = γ9; now = y9 }) (sliceVal (b9, o9) (length y9) ∷ []))
 
-  goes : (α l : ℕ) (γ′ : GName) → Is usize p (vint w64 p ∷ []) → ent 𝓤 (mean 𝓤 H A (Bundle α l γ′)) (Callee 𝓤 H A at-mem run .pre (to α l γ′))
-  goes α l γ′ was =
-      qed W (Bundle α l γ′ ∷ []) ∵
+  goes : (α l10 : ℕ) (γ′ : GName) → Is usize p (vint w64 p ∷ []) → ent 𝓤 (mean 𝓤 H A (Bundle α l10 γ′)) (Callee 𝓤 H A at-mem run .pre (to α l10 γ′))
+  goes α l10 γ′ was =
+      qed W (Bundle α l10 γ′ ∷ []) ∵
       split ! $ move ! (1 ∷ []) $ split ! $ move ! (1 ∷ []) $ split ! $ move ! (1 ∷ []) $ split ! $ move ! (1 ∷ []) $ split ! $ move ! (1 ∷ []) $ split ! $ move ! (1 ∷ []) $ split ! $ says ! ok $ nothing ! $ move ! (2 ∷ 0 ∷ []) $ fjoin ! $ owned ! S4.the-row (Is S4.the-row) (LL.makes S4.the-type S4′.the-plain 𝓤 H A) x8 _ is8 $ fjoin ! $ move ! (1 ∷ 0 ∷ []) $ fjoin ! $ move ! (1 ∷ 0 ∷ []) $ fjoin ! $ owned ! S3.the-row (Is S3.the-row) (EL.makes S3.the-type S3′.the-plain 𝓤 H A) x5 _ is5 $ fjoin ! $ owned ! Boolean (Is Boolean) (bool-makes 𝓤 H A W) x4 _ is4 $ fjoin ! $ owned ! S2.the-row (Is S2.the-row) (EL.makes S2.the-type S2′.the-plain 𝓤 H A) x3 _ is3 $ fjoin ! $ owned ! S1.the-row (Is S1.the-row) (LL.makes S1.the-type S1′.the-plain 𝓤 H A) x2 _ is2 $ fjoin ! $ move ! (1 ∷ 0 ∷ []) $ fjoin ! $ nothing ! $ move ! (2 ∷ 0 ∷ []) $ join ! $ move ! (2 ∷ 0 ∷ []) $ join ! $ move ! (2 ∷ 0 ∷ []) $ join ! $ move ! (2 ∷ 0 ∷ []) $ join ! $ frame ! $ done !
 
   exits : (r : Ran) (zs : (List ℕ × (Unit {0} × (Unit {0} × (Unit {0} × (Unit {0} × (Cursor × (Unit {0} × (Unit {0} × (List ℕ × Unit {0})))))))))) (len1 : length (zs .0) ≡ length y1) (len9 : length (zs .1 .1 .1 .1 .1 .1 .1 .1 .0) ≡ length y9) → (left ((zs .0)) r (tapeAt (now s6) ((zs .1 .1 .1 .1 .1 .0) .place)) ((zs .1 .1 .1 .1 .1 .1 .1 .1 .0)) ≡ leaves (out x8 (y9)) (inputRun x2 x3 x4 x5 (y1) (tapeAt (now s6) (h .place)))) × ((zs .1 .1 .1 .1 .1 .0) .last ≡ h .last) → Is R.the-row r (LL.val R.the-type R′.the-laws r ∷ []) → ent 𝓤 (⋆ 𝓤 H A (‵ (fobs γ (usize .coded .code ((zs .1 .1 .1 .1 .1 .0) .place))) ∷ ‵ (fbor κ2 (Body (mem usize) b o γ)) ∷ ‵ (flft κ0 q0) ∷ ‵ (flft κ1 q1) ∷ ‵ (flft κ2 q2) ∷ ‵ (flft κ3 q3) ∷ ‵ (ShrSlice (named 1) κ1 u64 .own (s6) (sliceVal (s6 .ptr) (length (s6 .now)) ∷ [])) ∷ ‵ (finally u64 γ1 (zs .0)) ∷ ‵ (finally u64 γ9 (zs .1 .1 .1 .1 .1 .1 .1 .1 .0)) ∷ [])) (Post (LL.val R.the-type R′.the-laws r))

@@ -101,20 +101,20 @@ module _ {M : Type 1} (𝓤 : URA M) (H : Heap 𝓤) (A : Atoms 𝓤) (W : Given
   abbrev Begun : Item 𝓤
   Begun = ‵ (flft (κ1) q1) ⊛ ‵ (ShrSlice (named 1) κ1 u64 .own (s5) (sliceVal (s5 .ptr) (length (s5 .now)) ∷ []))
 
-  starts : Is usize p (vint w64 p ∷ []) → ent 𝓤 (mean 𝓤 H A Begun) (Start 𝓤 H A at-mem run .pre start-to)
+  starts : Is usize p (vint w64 p ∷ []) → ent 𝓤 (mean 𝓤 H A (Begun)) (Start 𝓤 H A at-mem run .pre start-to)
   starts was =
       qed W (Begun ∷ []) ∵
       split ! $ nothing ! $ owned ! usize (Is usize) (uint-makes 𝓤 H A W w64) p _ was $ fjoin ! $ move ! (2 ∷ 0 ∷ []) $ fjoin ! $ nothing ! $ move ! (2 ∷ 0 ∷ []) $ join ! $ join ! $ frame ! $ done !
 
-  abbrev to : (α l : ℕ) (γ′ : GName) → Callee 𝓤 H A at-mem run .Ghost
-  to α l γ′ = (((κ0, (α ∷ [], (κ1, (κ3, tt)))), (q0, (fullShare, (q1, (q3, tt)))), tt, (s1, (x2, (x3, (x4, (record { ptr = (l, 0); name = γ′; now = h }, (s5, (x7, (record { ptr = (b8, o8); name = γ8; now = y8 }, tt)))))))), (sliceVal (s1 .ptr) (length (s1 .now)) ∷ [], (vint w64 x2 ∷ [], (vint w64 x3 ∷ [], (vint w64 x4 ∷ [], (vptr l 0 ∷ [], (sliceVal (s5 .ptr) (length (s5 .now)) ∷ [], (LL.val S1.the-type S1′.the-laws x7 ∷ [], (sliceVal (b8, o8) (length y8) ∷ [], tt))))))))), tt)
+  abbrev to : (α l9 : ℕ) (γ′ : GName) → Callee 𝓤 H A at-mem run .Ghost
+  to α l9 γ′ = (((κ0, (α ∷ [], (κ1, (κ3, tt)))), (q0, (fullShare, (q1, (q3, tt)))), tt, (s1, (x2, (x3, (x4, (record { ptr = (l9, 0); name = γ′; now = h }, (s5, (x7, (record { ptr = (b8, o8); name = γ8; now = y8 }, tt)))))))), (sliceVal (s1 .ptr) (length (s1 .now)) ∷ [], (vint w64 x2 ∷ [], (vint w64 x3 ∷ [], (vint w64 x4 ∷ [], (vptr l9 0 ∷ [], (sliceVal (s5 .ptr) (length (s5 .now)) ∷ [], (LL.val S1.the-type S1′.the-laws x7 ∷ [], (sliceVal (b8, o8) (length y8) ∷ [], tt))))))))), tt)
 
-  abbrev Bundle : (α l : ℕ) (γ′ : GName) → Item 𝓤
-  Bundle α l γ′ = ‵ (flft (κ0) q0) ⊛ ‵ (flft (α ∷ []) fullShare) ⊛ ‵ (flft (κ1) q1) ⊛ ‵ (flft (κ3) q3) ⊛ ‵ (ShrSlice (named 0) κ0 u64 .own (s1) (sliceVal (s1 .ptr) (length (s1 .now)) ∷ [])) ⊛ ‵ (cursor-own 𝓤 H A W α l γ′ h) ⊛ ‵ (ShrSlice (named 1) κ1 u64 .own (s5) (sliceVal (s5 .ptr) (length (s5 .now)) ∷ [])) ⊛ ‵ (MutSlice (named 3) κ3 u64 .own (record { ptr = (b8, o8); name = γ8; now = y8 }) (sliceVal (b8, o8) (length y8) ∷ []))
+  abbrev Bundle : (α l9 : ℕ) (γ′ : GName) → Item 𝓤
+  Bundle α l9 γ′ = ‵ (flft (κ0) q0) ⊛ ‵ (flft (α ∷ []) fullShare) ⊛ ‵ (flft (κ1) q1) ⊛ ‵ (flft (κ3) q3) ⊛ ‵ (ShrSlice (named 0) κ0 u64 .own (s1) (sliceVal (s1 .ptr) (length (s1 .now)) ∷ [])) ⊛ ‵ (cursor-own 𝓤 H A W α l9 γ′ h) ⊛ ‵ (ShrSlice (named 1) κ1 u64 .own (s5) (sliceVal (s5 .ptr) (length (s5 .now)) ∷ [])) ⊛ ‵ (MutSlice (named 3) κ3 u64 .own (record { ptr = (b8, o8); name = γ8; now = y8 }) (sliceVal (b8, o8) (length y8) ∷ []))
 
-  goes : (α l : ℕ) (γ′ : GName) → Is usize p (vint w64 p ∷ []) → ent 𝓤 (mean 𝓤 H A (Bundle α l γ′)) (Callee 𝓤 H A at-mem run .pre (to α l γ′))
-  goes α l γ′ was =
-      qed W (Bundle α l γ′ ∷ []) ∵
+  goes : (α l9 : ℕ) (γ′ : GName) → Is usize p (vint w64 p ∷ []) → ent 𝓤 (mean 𝓤 H A (Bundle α l9 γ′)) (Callee 𝓤 H A at-mem run .pre (to α l9 γ′))
+  goes α l9 γ′ was =
+      qed W (Bundle α l9 γ′ ∷ []) ∵
       split ! $ move ! (1 ∷ []) $ split ! $ move ! (1 ∷ []) $ split ! $ move ! (1 ∷ []) $ split ! $ move ! (1 ∷ []) $ split ! $ move ! (1 ∷ []) $ split ! $ move ! (1 ∷ []) $ split ! $ says ! ok $ nothing ! $ move ! (2 ∷ 0 ∷ []) $ fjoin ! $ owned ! S1.the-row (Is S1.the-row) (LL.makes S1.the-type S1′.the-plain 𝓤 H A) x7 _ is7 $ fjoin ! $ move ! (1 ∷ 0 ∷ []) $ fjoin ! $ move ! (1 ∷ 0 ∷ []) $ fjoin ! $ owned ! u64 (Is u64) (uint-makes 𝓤 H A W w64) x4 _ is4 $ fjoin ! $ owned ! usize (Is usize) (uint-makes 𝓤 H A W w64) x3 _ is3 $ fjoin ! $ owned ! usize (Is usize) (uint-makes 𝓤 H A W w64) x2 _ is2 $ fjoin ! $ move ! (1 ∷ 0 ∷ []) $ fjoin ! $ nothing ! $ move ! (2 ∷ 0 ∷ []) $ join ! $ move ! (2 ∷ 0 ∷ []) $ join ! $ move ! (2 ∷ 0 ∷ []) $ join ! $ move ! (2 ∷ 0 ∷ []) $ join ! $ frame ! $ done !
 
   exits : (r : Batch) (zs : (Unit {0} × (Unit {0} × (Unit {0} × (Unit {0} × (Cursor × (Unit {0} × (Unit {0} × (List ℕ × Unit {0}))))))))) (len8 : length (zs .1 .1 .1 .1 .1 .1 .1 .0) ≡ length y8) → (leftBatch (now s1) r (tapeAt (now s5) ((zs .1 .1 .1 .1 .0) .place)) ((zs .1 .1 .1 .1 .1 .1 .1 .0)) ≡ leaves (out x7 (y8)) (outputBatchIn x2 x3 x4 (now s1) (tapeAt (now s5) (h .place)))) × ((zs .1 .1 .1 .1 .0) .last ≡ h .last) → Is R.the-row r (LL.val R.the-type R′.the-laws r ∷ []) → ent 𝓤 (⋆ 𝓤 H A (‵ (fobs γ (usize .coded .code ((zs .1 .1 .1 .1 .0) .place))) ∷ ‵ (fbor κ2 (Body (mem usize) b o γ)) ∷ ‵ (flft κ0 q0) ∷ ‵ (flft κ1 q1) ∷ ‵ (flft κ2 q2) ∷ ‵ (flft κ3 q3) ∷ ‵ (ShrSlice (named 0) κ0 u64 .own (s1) (sliceVal (s1 .ptr) (length (s1 .now)) ∷ [])) ∷ ‵ (ShrSlice (named 1) κ1 u64 .own (s5) (sliceVal (s5 .ptr) (length (s5 .now)) ∷ [])) ∷ ‵ (finally u64 γ8 (zs .1 .1 .1 .1 .1 .1 .1 .0)) ∷ [])) (Post (LL.val R.the-type R′.the-laws r))

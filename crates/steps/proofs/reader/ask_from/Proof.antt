@@ -95,20 +95,20 @@ module _ {M : Type 1} (𝓤 : URA M) (H : Heap 𝓤) (A : Atoms 𝓤) (W : Given
   abbrev Begun : Item 𝓤
   Begun = ‵ (flft (κ0) q0) ⊛ ‵ (ShrSlice (named 0) κ0 u64 .own (s1) (sliceVal (s1 .ptr) (length (s1 .now)) ∷ []))
 
-  starts : Is usize p (vint w64 p ∷ []) → ent 𝓤 (mean 𝓤 H A Begun) (Start 𝓤 H A at-mem run .pre start-to)
+  starts : Is usize p (vint w64 p ∷ []) → ent 𝓤 (mean 𝓤 H A (Begun)) (Start 𝓤 H A at-mem run .pre start-to)
   starts was =
       qed W (Begun ∷ []) ∵
       split ! $ nothing ! $ owned ! usize (Is usize) (uint-makes 𝓤 H A W w64) p _ was $ fjoin ! $ move ! (2 ∷ 0 ∷ []) $ fjoin ! $ nothing ! $ move ! (2 ∷ 0 ∷ []) $ join ! $ join ! $ frame ! $ done !
 
-  abbrev to : (α l : ℕ) (γ′ : GName) → Callee 𝓤 H A at-mem run .Ghost
-  to α l γ′ = (((α ∷ [], (κ0, tt)), (fullShare, (q0, tt)), tt, (record { ptr = (l, 0); name = γ′; now = h }, (s1, (x3, tt))), (vptr l 0 ∷ [], (sliceVal (s1 .ptr) (length (s1 .now)) ∷ [], (vint w64 x3 ∷ [], tt)))), tt)
+  abbrev to : (α l4 : ℕ) (γ′ : GName) → Callee 𝓤 H A at-mem run .Ghost
+  to α l4 γ′ = (((α ∷ [], (κ0, tt)), (fullShare, (q0, tt)), tt, (record { ptr = (l4, 0); name = γ′; now = h }, (s1, (x3, tt))), (vptr l4 0 ∷ [], (sliceVal (s1 .ptr) (length (s1 .now)) ∷ [], (vint w64 x3 ∷ [], tt)))), tt)
 
-  abbrev Bundle : (α l : ℕ) (γ′ : GName) → Item 𝓤
-  Bundle α l γ′ = ‵ (flft (α ∷ []) fullShare) ⊛ ‵ (flft (κ0) q0) ⊛ ‵ (cursor-own 𝓤 H A W α l γ′ h) ⊛ ‵ (ShrSlice (named 0) κ0 u64 .own (s1) (sliceVal (s1 .ptr) (length (s1 .now)) ∷ []))
+  abbrev Bundle : (α l4 : ℕ) (γ′ : GName) → Item 𝓤
+  Bundle α l4 γ′ = ‵ (flft (α ∷ []) fullShare) ⊛ ‵ (flft (κ0) q0) ⊛ ‵ (cursor-own 𝓤 H A W α l4 γ′ h) ⊛ ‵ (ShrSlice (named 0) κ0 u64 .own (s1) (sliceVal (s1 .ptr) (length (s1 .now)) ∷ []))
 
-  goes : (α l : ℕ) (γ′ : GName) → Is usize p (vint w64 p ∷ []) → ent 𝓤 (mean 𝓤 H A (Bundle α l γ′)) (Callee 𝓤 H A at-mem run .pre (to α l γ′))
-  goes α l γ′ was =
-      qed W (Bundle α l γ′ ∷ []) ∵
+  goes : (α l4 : ℕ) (γ′ : GName) → Is usize p (vint w64 p ∷ []) → ent 𝓤 (mean 𝓤 H A (Bundle α l4 γ′)) (Callee 𝓤 H A at-mem run .pre (to α l4 γ′))
+  goes α l4 γ′ was =
+      qed W (Bundle α l4 γ′ ∷ []) ∵
       split ! $ move ! (1 ∷ []) $ split ! $ move ! (1 ∷ []) $ split ! $ says ! refl $ nothing ! $ owned ! u64 (Is u64) (uint-makes 𝓤 H A W w64) x3 _ is3 $ fjoin ! $ move ! (2 ∷ 0 ∷ []) $ fjoin ! $ move ! (1 ∷ 0 ∷ []) $ fjoin ! $ nothing ! $ move ! (2 ∷ 0 ∷ []) $ join ! $ move ! (2 ∷ 0 ∷ []) $ join ! $ frame ! $ done !
 
   exits : (r : Answer) (zs : (Cursor × (Unit {0} × (Unit {0} × Unit {0})))) → (asked r (tapeAt (now s1) ((zs .0) .place)) ≡ ask (tapeAt (now s1) (h .place)) x3) × ((zs .0) .last ≡ h .last) → Is R.the-row r (EL.val R.the-type R′.the-laws r ∷ []) → ent 𝓤 (⋆ 𝓤 H A (‵ (fobs γ (usize .coded .code ((zs .0) .place))) ∷ ‵ (fbor κ1 (Body (mem usize) b o γ)) ∷ ‵ (flft κ0 q0) ∷ ‵ (flft κ1 q1) ∷ ‵ (ShrSlice (named 0) κ0 u64 .own (s1) (sliceVal (s1 .ptr) (length (s1 .now)) ∷ [])) ∷ [])) (Post (EL.val R.the-type R′.the-laws r))

@@ -103,20 +103,20 @@ module _ {M : Type 1} (𝓤 : URA M) (H : Heap 𝓤) (A : Atoms 𝓤) (W : Given
   abbrev Begun : Item 𝓤
   Begun = ‵ (flft (κ0) q0) ⊛ ‵ (ShrSlice (named 0) κ0 u64 .own (s1) (sliceVal (s1 .ptr) (length (s1 .now)) ∷ []))
 
-  starts : Is usize p (vint w64 p ∷ []) → ent 𝓤 (mean 𝓤 H A Begun) (Start 𝓤 H A at-mem run .pre start-to)
+  starts : Is usize p (vint w64 p ∷ []) → ent 𝓤 (mean 𝓤 H A (Begun)) (Start 𝓤 H A at-mem run .pre start-to)
   starts was =
       qed W (Begun ∷ []) ∵
       split ! $ nothing ! $ owned ! usize (Is usize) (uint-makes 𝓤 H A W w64) p _ was $ fjoin ! $ move ! (2 ∷ 0 ∷ []) $ fjoin ! $ nothing ! $ move ! (2 ∷ 0 ∷ []) $ join ! $ join ! $ frame ! $ done !
 
-  abbrev to : (α l : ℕ) (γ′ : GName) → Callee 𝓤 H A at-mem run .Ghost
-  to α l γ′ = (((α ∷ [], (κ0, (κ2, tt))), (fullShare, (q0, (q2, tt))), tt, (record { ptr = (l, 0); name = γ′; now = h }, (s1, (x3, (x4, (x5, (record { ptr = (b6, o6); name = γ6; now = y6 }, tt)))))), (vptr l 0 ∷ [], (sliceVal (s1 .ptr) (length (s1 .now)) ∷ [], (EL.val S1.the-type S1′.the-laws x3 ∷ [], (vint w64 x4 ∷ [], (LL.val S2.the-type S2′.the-laws x5 ∷ [], (sliceVal (b6, o6) (length y6) ∷ [], tt))))))), tt)
+  abbrev to : (α l7 : ℕ) (γ′ : GName) → Callee 𝓤 H A at-mem run .Ghost
+  to α l7 γ′ = (((α ∷ [], (κ0, (κ2, tt))), (fullShare, (q0, (q2, tt))), tt, (record { ptr = (l7, 0); name = γ′; now = h }, (s1, (x3, (x4, (x5, (record { ptr = (b6, o6); name = γ6; now = y6 }, tt)))))), (vptr l7 0 ∷ [], (sliceVal (s1 .ptr) (length (s1 .now)) ∷ [], (EL.val S1.the-type S1′.the-laws x3 ∷ [], (vint w64 x4 ∷ [], (LL.val S2.the-type S2′.the-laws x5 ∷ [], (sliceVal (b6, o6) (length y6) ∷ [], tt))))))), tt)
 
-  abbrev Bundle : (α l : ℕ) (γ′ : GName) → Item 𝓤
-  Bundle α l γ′ = ‵ (flft (α ∷ []) fullShare) ⊛ ‵ (flft (κ0) q0) ⊛ ‵ (flft (κ2) q2) ⊛ ‵ (cursor-own 𝓤 H A W α l γ′ h) ⊛ ‵ (ShrSlice (named 0) κ0 u64 .own (s1) (sliceVal (s1 .ptr) (length (s1 .now)) ∷ [])) ⊛ ‵ (MutSlice (named 2) κ2 u64 .own (record { ptr = (b6, o6); name = γ6; now = y6 }) (sliceVal (b6, o6) (length y6) ∷ []))
+  abbrev Bundle : (α l7 : ℕ) (γ′ : GName) → Item 𝓤
+  Bundle α l7 γ′ = ‵ (flft (α ∷ []) fullShare) ⊛ ‵ (flft (κ0) q0) ⊛ ‵ (flft (κ2) q2) ⊛ ‵ (cursor-own 𝓤 H A W α l7 γ′ h) ⊛ ‵ (ShrSlice (named 0) κ0 u64 .own (s1) (sliceVal (s1 .ptr) (length (s1 .now)) ∷ [])) ⊛ ‵ (MutSlice (named 2) κ2 u64 .own (record { ptr = (b6, o6); name = γ6; now = y6 }) (sliceVal (b6, o6) (length y6) ∷ []))
 
-  goes : (α l : ℕ) (γ′ : GName) → Is usize p (vint w64 p ∷ []) → ent 𝓤 (mean 𝓤 H A (Bundle α l γ′)) (Callee 𝓤 H A at-mem run .pre (to α l γ′))
-  goes α l γ′ was =
-      qed W (Bundle α l γ′ ∷ []) ∵
+  goes : (α l7 : ℕ) (γ′ : GName) → Is usize p (vint w64 p ∷ []) → ent 𝓤 (mean 𝓤 H A (Bundle α l7 γ′)) (Callee 𝓤 H A at-mem run .pre (to α l7 γ′))
+  goes α l7 γ′ was =
+      qed W (Bundle α l7 γ′ ∷ []) ∵
       split ! $ move ! (1 ∷ []) $ split ! $ move ! (1 ∷ []) $ split ! $ move ! (1 ∷ []) $ split ! $ move ! (1 ∷ []) $ split ! $ says ! refl $ nothing ! $ move ! (2 ∷ 0 ∷ []) $ fjoin ! $ owned ! S2.the-row (Is S2.the-row) (LL.makes S2.the-type S2′.the-plain 𝓤 H A) x5 _ is5 $ fjoin ! $ owned ! u64 (Is u64) (uint-makes 𝓤 H A W w64) x4 _ is4 $ fjoin ! $ owned ! S1.the-row (Is S1.the-row) (EL.makes S1.the-type S1′.the-plain 𝓤 H A) x3 _ is3 $ fjoin ! $ move ! (1 ∷ 0 ∷ []) $ fjoin ! $ move ! (1 ∷ 0 ∷ []) $ fjoin ! $ nothing ! $ move ! (2 ∷ 0 ∷ []) $ join ! $ move ! (2 ∷ 0 ∷ []) $ join ! $ move ! (2 ∷ 0 ∷ []) $ join ! $ frame ! $ done !
 
   exits : (r : Parts) (zs : (Cursor × (Unit {0} × (Unit {0} × (Unit {0} × (Unit {0} × (List ℕ × Unit {0}))))))) (len6 : length (zs .1 .1 .1 .1 .1 .0) ≡ length y6) → (left r (tapeAt (now s1) ((zs .0) .place)) ((zs .1 .1 .1 .1 .1 .0)) ≡ leaves (out x5 (y6)) (readParts x3 x4 tt (tapeAt (now s1) (h .place)))) × ((zs .0) .last ≡ h .last) → Is R.the-row r (LL.val R.the-type R′.the-laws r ∷ []) → ent 𝓤 (⋆ 𝓤 H A (‵ (fobs γ (usize .coded .code ((zs .0) .place))) ∷ ‵ (fbor κ1 (Body (mem usize) b o γ)) ∷ ‵ (flft κ0 q0) ∷ ‵ (flft κ1 q1) ∷ ‵ (flft κ2 q2) ∷ ‵ (ShrSlice (named 0) κ0 u64 .own (s1) (sliceVal (s1 .ptr) (length (s1 .now)) ∷ [])) ∷ ‵ (finally u64 γ6 (zs .1 .1 .1 .1 .1 .0)) ∷ [])) (Post (LL.val R.the-type R′.the-laws r))
