@@ -324,7 +324,7 @@ pub fn run(
 ) -> Ran
     requires { ⌜ (stateOk (now state) ≡ true) × CallOk call (nodes (now state)) × (length (now words) ≡ epochLength (nodes (now state))) ⌝ }
     ensures { λ r. ⌜ (leftRan r (now (words .exit)) (tapeAt (now (answers .entry)) (now (cursor .exit) .place)) (now (table .exit))
-        ≡ leaves (out step (now (table .entry))) (callWork call epoch (now (state .entry)) (tapeAt (now (answers .entry)) (now (cursor .entry) .place)))
+        ≡ leaves (out step (now (table .entry))) (callWork call epoch (now (state .entry)) (tapeAt (now (answers .entry)) (now (cursor .entry) .place))))
         × (now (cursor .exit) .last ≡ now (cursor .entry) .last) ⌝ }
 {
     run_at(
@@ -354,16 +354,7 @@ pub fn run_from(
         ≡ leaves (out step (now (table .entry))) (callWork call epoch (now (state .entry)) (tapeAt (now (answers .entry)) (now (place .entry)))) ⌝ }
 {
     let mut cursor = steps::reader::cursor_at(answers, *place);
-    let ran = run(
-        state,
-        epoch,
-        call,
-        words,
-        &mut cursor,
-        answers,
-        step,
-        table,
-    );
+    let ran = run(state, epoch, call, words, &mut cursor, answers, step, table);
     *place = cursor.place;
     ran
 }
