@@ -1,5 +1,5 @@
 -- A call as the code does it: the run reads the state and works on the words of one epoch apart from it, and a commit writes afterwards.
--- Nobody has to believe these: proofs/RunBesideState.antt proves that they are the runs of HoneyBadger.antt, and engine/proofs/Settled.antt that calls come to the same.
+-- Nobody has to believe these: proofs/RunBesideState.antt proves that they are the runs of HoneyBadger.antt, and calls/proofs/Settled.antt that calls come to the same.
 use Prim.Native.Nat.{ℕ, zero, suc, _+_}
 use mathlib.Core.List.{List}
 use mathlib.Core.Bool.{true, false, cond}
