@@ -15,7 +15,7 @@ enum. The contract of f is that of f_at, at the cursor's place, × that its last
 `requires` is handed on as it stands, but that f_from need not require what holds of `cursorAt` by computation.
 
 The statements are read from `rt mir`, parameters and contracts from the source, so there is nothing to write by hand. Nothing here
-proves anything: the verdict is `rt ci`. The method is that of the planner's tool walkgen (T1, T2).
+proves anything: the verdict is `rt ci`.
 """
 import re
 import subprocess
@@ -194,10 +194,12 @@ class Function:
 
 
 def sources(crate):
+    """The files of a library; a program has no thin functions."""
     folder = ROOT / "crates" / crate / "src"
     for file in sorted(folder.rglob("*.rt")):
         parts = list(file.relative_to(folder).with_suffix("").parts)
-        yield Source(crate, [] if parts in (["lib"], ["main"]) else parts)
+        if parts != ["main"]:
+            yield Source(crate, [] if parts == ["lib"] else parts)
 
 
 # ---- MIR
@@ -946,31 +948,29 @@ class Walk:
 
 
 def main():
-    words = sys.argv[1:]
-    check = words[:1] == ["--check"]
-    if check:
-        words = words[1:]
-    if not words and not check:
-        die("usage: walks.py CRATE [FN ..], or walks.py --check [CRATE ..]")
-    crates = words[:1] if not check else words or sorted(path.name for path in (ROOT / "crates").iterdir())
-    wrong = 0
+    check, words = sys.argv[1:2] == ["--check"], sys.argv[1:]
+    if not words:
+        sys.exit(__doc__.strip())
+    crates = words[1:] or sorted(path.name for path in (ROOT / "crates").iterdir()) if check else words[:1]
+    walks, wrong = 0, 0
     for crate in crates:
         fns = [fn for source in sources(crate) for fn in source.functions() if fn.form()]
-        if not check and words[1:]:
-            fns = [fn for fn in fns if fn.name in words[1:]]
         items = mir(crate) if fns else {}
         for fn in fns:
-            file = ROOT / "crates" / crate / "proofs" / Path(*fn.path) / "Proof.antt"
-            text = Walk(fn, items).text()
-            if check:
-                if not file.is_file() or re.sub(r"\s+", "", file.read_text()) != re.sub(r"\s+", "", text):
-                    print(f"{file.relative_to(ROOT)} is not as tools/walks.py writes it")
-                    wrong += 1
+            if not check and words[1:] and fn.name not in words[1:]:
                 continue
-            file.parent.mkdir(parents=True, exist_ok=True)
-            file.write_text(text)
-            print(f"wrote {file.relative_to(ROOT)}")
-    sys.exit(1 if wrong else 0)
+            file, text = ROOT / "crates" / crate / "proofs" / Path(*fn.path) / "Proof.antt", Walk(fn, items).text()
+            walks += 1
+            if not check:
+                file.parent.mkdir(parents=True, exist_ok=True)
+                file.write_text(text)
+                print(f"wrote {file.relative_to(ROOT)}")
+            elif not file.is_file() or "".join(file.read_text().split()) != "".join(text.split()):
+                print(f"{file.relative_to(ROOT)} is not as it would be written")
+                wrong += 1
+    if check:
+        print(f"{walks} walks, {wrong} not as they would be written")
+    sys.exit(bool(wrong))
 
 
 if __name__ == "__main__":

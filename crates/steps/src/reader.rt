@@ -1,4 +1,7 @@
 // The answer reader: the records of the chain, one after the other. The cursor is lent and its place moves past what was read.
+//
+// What reads answers is there three times, here and in each layer above. `.._at` does the work at a place. The public function is lent a cursor
+// and lends its place on. `.._from`, for callers that hold a place, makes the table's cursor there and lends it.
 ghost use mathlib.Core.Path.{_≡_};
 ghost use Rattle.steps.specs.Answers.{chain, tapeAt, asked, headOf, ask, askAbout, lastIndex, cursorAt};
 ghost use Rattle.steps.specs.Steps.{out, putAll};

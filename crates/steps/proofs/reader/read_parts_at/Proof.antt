@@ -23,55 +23,55 @@ Inv-loop answers place₀ last content proposer words₀ output₀ s₀ place wo
 abbrev μ-loop : tie.MeasureT-loop
 μ-loop answers place₀ last content proposer words₀ output₀ s₀ place words output s = length (chain answers place)
 
--- src/reader.rt:279:5
+-- src/reader.rt:282:5
 loop-holds : tie.Need-loop-holds Inv-loop μ-loop
 loop-holds c = (refl, refl)
 
--- src/reader.rt:281:15
+-- src/reader.rt:284:15
 peek-requires : tie.Need-peek-requires Inv-loop μ-loop
 peek-requires c κs = search needs
 
--- src/reader.rt:282:29
+-- src/reader.rt:285:29
 enum-known-next : tie.Need-enum-known-next Inv-loop μ-loop
 enum-known-next c = search needs
 
--- src/reader.rt:283:21
+-- src/reader.rt:286:21
 is-part-requires : tie.Need-is-part-requires Inv-loop μ-loop
 is-part-requires c κs = search needs
 
--- src/reader.rt:284:21
+-- src/reader.rt:287:21
 same-length : tie.Need-same-length Inv-loop μ-loop
 same-length c = search needs
 
--- src/reader.rt:284:21
+-- src/reader.rt:287:21
 returns : tie.Need-returns Inv-loop μ-loop
 returns c = parts-stop _ _ _ _ _ (sym (c .before .before .before .before .before .peek .ensures) ∙ c .before .before .before .next .given .1) (sym (c .before .is-part .ensures) ∙ not-true _ (c .if1 .taken)) _ _ ∙ c .before .before .before .before .before .before .loop .inv .1
 
--- src/reader.rt:286:17
+-- src/reader.rt:289:17
 part-entry-requires : tie.Need-part-entry-requires Inv-loop μ-loop
 part-entry-requires c κs = search needs
 
--- src/reader.rt:287:17
+-- src/reader.rt:290:17
 last-output-requires : tie.Need-last-output-requires Inv-loop μ-loop
 last-output-requires c κs = search needs
 
--- src/reader.rt:279:5
+-- src/reader.rt:282:5
 loop-less : tie.Need-loop-less Inv-loop μ-loop
 loop-less c = chain-shorter _ _ (sym (c .before .before .before .before .before .before .before .before .before .before .peek .ensures) ∙ c .before .before .before .before .before .before .before .before .next .given .1)
 
--- src/reader.rt:279:5
+-- src/reader.rt:282:5
 loop-again : tie.Need-loop-again Inv-loop μ-loop
 loop-again c = (search needs, parts-turn _ _ _ _ _ (sym (c .before .before .before .before .before .before .before .before .before .before .peek .ensures) ∙ c .before .before .before .before .before .before .before .before .next .given .1) (sym (c .before .before .before .before .before .before .is-part .ensures) ∙ not-false _ (c .before .before .before .before .before .if1 .left)) _ _ _ _ _ (c .before .before .before .part-entry .ensures) (c .last-output .ensures) ∙ c .before .before .before .before .before .before .before .before .before .before .before .loop .inv .1)
 
--- src/reader.rt:290:27
+-- src/reader.rt:293:27
 enum-told : tie.Need-enum-told Inv-loop μ-loop
 enum-told c = search needs
 
--- src/reader.rt:290:27
+-- src/reader.rt:293:27
 same-length-2 : tie.Need-same-length-2 Inv-loop μ-loop
 same-length-2 c = search needs
 
--- src/reader.rt:290:27
+-- src/reader.rt:293:27
 returns-2 : tie.Need-returns-2 Inv-loop μ-loop
 returns-2 c = parts-end _ _ _ _ _ (sym (c .before .before .peek .ensures) ∙ c .enum-told .given .1) _ _ ∙ c .before .before .before .loop .inv .1
 
