@@ -22,6 +22,7 @@ use steps::numbers::SHARE_CONTENT;
 use steps::numbers::SHARE_VERIFIES;
 use steps::numbers::UNVERIFIED_DECRYPTION_SHARE_SENDER;
 use steps::reader::Answer;
+use steps::reader::Cursor;
 use steps::step::Step;
 
 pub struct ThresholdDecrypt {
@@ -100,7 +101,7 @@ fn combine(answers: &[u64], place: &mut usize) -> Outcome
     ensures { λ r. ⌜ ((td : ThresholdDecrypt) (s : Step) (w : List ℕ) → left (handled td r s) (tapeAt (now (answers .entry)) (now (place .exit))) w
         ≡ leaves (out s w) (combine td (tapeAt (now (answers .entry)) (now (place .entry))))) ⌝ }
 {
-    match steps::reader::ask(answers, place, CONTRIBUTION_DECRYPTED) {
+    match steps::reader::ask_from(answers, place, CONTRIBUTION_DECRYPTED) {
         Answer::Got { a, b } => {
             if a == 0 {
                 return Outcome::Decryption;
@@ -132,8 +133,7 @@ impl ThresholdDecrypt {
         self.shares[sender] != 0
     }
 
-    // Sets the ciphertext, if there is none yet and it verifies.
-    pub fn set_ciphertext(
+    fn set_ciphertext_at(
         self,
         proposer: u64,
         ciphertext: u64,
@@ -149,7 +149,7 @@ impl ThresholdDecrypt {
                 outcome: SetOutcome::MultipleInputs,
             };
         }
-        match steps::reader::ask_about(answers, place, CIPHERTEXT_VERIFIES, proposer) {
+        match steps::reader::ask_about_from(answers, place, CIPHERTEXT_VERIFIES, proposer) {
             Answer::Got { a, b: _ } => {
                 if a == 0 {
                     return SetCiphertext {
@@ -171,6 +171,37 @@ impl ThresholdDecrypt {
         }
     }
 
+    // Sets the ciphertext, if there is none yet and it verifies.
+    pub fn set_ciphertext(
+        self,
+        proposer: u64,
+        ciphertext: u64,
+        cursor: &mut Cursor,
+        answers: &[u64],
+    ) -> SetCiphertext
+        ensures { λ r. ⌜ (leftSet r (tapeAt (now (answers .entry)) (now (cursor .exit) .place))
+            ≡ setCiphertext proposer ciphertext self (tapeAt (now (answers .entry)) (now (cursor .entry) .place)))
+            × (now (cursor .exit) .last ≡ now (cursor .entry) .last) ⌝ }
+    {
+        self.set_ciphertext_at(proposer, ciphertext, answers, &mut cursor.place)
+    }
+
+    pub fn set_ciphertext_from(
+        self,
+        proposer: u64,
+        ciphertext: u64,
+        answers: &[u64],
+        place: &mut usize,
+    ) -> SetCiphertext
+        ensures { λ r. ⌜ leftSet r (tapeAt (now (answers .entry)) (now (place .exit)))
+            ≡ setCiphertext proposer ciphertext self (tapeAt (now (answers .entry)) (now (place .entry))) ⌝ }
+    {
+        let mut cursor = steps::reader::cursor_at(answers, *place);
+        let set = self.set_ciphertext(proposer, ciphertext, &mut cursor, answers);
+        *place = cursor.place;
+        set
+    }
+
     // Whether the share of this sender is valid. It is asked about once there is a ciphertext.
     fn is_share_valid(self, sender: usize, answers: &[u64], place: &mut usize) -> Validity
         ensures { λ r. ⌜ leftValid self r (tapeAt (now (answers .entry)) (now (place .exit)))
@@ -179,7 +210,7 @@ impl ThresholdDecrypt {
         if self.ciphertext == 0 {
             return Validity::Valid;
         }
-        match steps::reader::ask_about(answers, place, SHARE_VERIFIES, sender as u64) {
+        match steps::reader::ask_about_from(answers, place, SHARE_VERIFIES, sender as u64) {
             Answer::Got { a, b: _ } => {
                 if a == 0 {
                     return Validity::Invalid;
@@ -242,8 +273,7 @@ impl ThresholdDecrypt {
         }
     }
 
-    // Sends the own share, and tries to combine.
-    pub fn start_decryption(
+    fn start_decryption_at(
         self,
         net: NetworkInfo,
         proposer: u64,
@@ -273,7 +303,7 @@ impl ThresholdDecrypt {
         if !(net.is_validator() & net.has_key) {
             return td.try_output(net, proposer, answers, place, done, words);
         }
-        match steps::reader::ask(answers, place, OWN_DECRYPTION_SHARE) {
+        match steps::reader::ask_from(answers, place, OWN_DECRYPTION_SHARE) {
             Answer::Got { a: _, b } => {
                 let sent = done.message(words, SHARE_CONTENT, proposer, b);
                 let own = net.our_id;
@@ -315,7 +345,7 @@ impl ThresholdDecrypt {
             let combined = combine(answers, place);
             return td.handled(combined, step);
         }
-        let started = td.start_decryption(net, proposer, answers, place, step, words);
+        let started = td.start_decryption_at(net, proposer, answers, place, step, words);
         let outcome = started.outcome;
         let Outcome::Nothing = outcome else {
             return started;
@@ -324,6 +354,43 @@ impl ThresholdDecrypt {
         let done = started.step;
         let combined = combine(answers, place);
         last.handled(combined, done)
+    }
+
+    // Sends the own share, and tries to combine.
+    pub fn start_decryption(
+        self,
+        net: NetworkInfo,
+        proposer: u64,
+        cursor: &mut Cursor,
+        answers: &[u64],
+        step: Step,
+        words: &mut [u64],
+    ) -> Handled
+        requires { ⌜ Network net ⌝ }
+        ensures { λ r. ⌜ (left r (tapeAt (now (answers .entry)) (now (cursor .exit) .place)) (now (words .exit))
+            ≡ leaves (out step (now (words .entry))) (startDecryption net proposer self (tapeAt (now (answers .entry)) (now (cursor .entry) .place))))
+            × (now (cursor .exit) .last ≡ now (cursor .entry) .last) ⌝ }
+    {
+        self.start_decryption_at(net, proposer, answers, &mut cursor.place, step, words)
+    }
+
+    pub fn start_decryption_from(
+        self,
+        net: NetworkInfo,
+        proposer: u64,
+        answers: &[u64],
+        place: &mut usize,
+        step: Step,
+        words: &mut [u64],
+    ) -> Handled
+        requires { ⌜ Network net ⌝ }
+        ensures { λ r. ⌜ left r (tapeAt (now (answers .entry)) (now (place .exit))) (now (words .exit))
+            ≡ leaves (out step (now (words .entry))) (startDecryption net proposer self (tapeAt (now (answers .entry)) (now (place .entry)))) ⌝ }
+    {
+        let mut cursor = steps::reader::cursor_at(answers, *place);
+        let started = self.start_decryption(net, proposer, &mut cursor, answers, step, words);
+        *place = cursor.place;
+        started
     }
 
     // Keeps a share. A second one of a sender overwrites the first, and nothing is combined.
@@ -352,8 +419,7 @@ impl ThresholdDecrypt {
         td.try_output(net, proposer, answers, place, step, words)
     }
 
-    // Handles a share that this sender sent. The caller has refused an unknown sender.
-    pub fn handle_message(
+    fn handle_message_at(
         self,
         net: NetworkInfo,
         proposer: u64,
@@ -386,5 +452,63 @@ impl ThresholdDecrypt {
             }
             Validity::Refused => self.handled(Outcome::Refused, step),
         }
+    }
+    // Handles a share that this sender sent. The caller has refused an unknown sender.
+    pub fn handle_message(
+        self,
+        net: NetworkInfo,
+        proposer: u64,
+        sender: usize,
+        share: u64,
+        cursor: &mut Cursor,
+        answers: &[u64],
+        step: Step,
+        words: &mut [u64],
+    ) -> Handled
+        requires { ⌜ Network net × (sender < net .«num_nodes») ⌝ }
+        ensures { λ r. ⌜ (left r (tapeAt (now (answers .entry)) (now (cursor .exit) .place)) (now (words .exit))
+            ≡ leaves (out step (now (words .entry))) (handleMessage net proposer sender share self (tapeAt (now (answers .entry)) (now (cursor .entry) .place))))
+            × (now (cursor .exit) .last ≡ now (cursor .entry) .last) ⌝ }
+    {
+        self.handle_message_at(
+            net,
+            proposer,
+            sender,
+            share,
+            answers,
+            &mut cursor.place,
+            step,
+            words,
+        )
+    }
+
+    pub fn handle_message_from(
+        self,
+        net: NetworkInfo,
+        proposer: u64,
+        sender: usize,
+        share: u64,
+        answers: &[u64],
+        place: &mut usize,
+        step: Step,
+        words: &mut [u64],
+    ) -> Handled
+        requires { ⌜ Network net × (sender < net .«num_nodes») ⌝ }
+        ensures { λ r. ⌜ left r (tapeAt (now (answers .entry)) (now (place .exit))) (now (words .exit))
+            ≡ leaves (out step (now (words .entry))) (handleMessage net proposer sender share self (tapeAt (now (answers .entry)) (now (place .entry)))) ⌝ }
+    {
+        let mut cursor = steps::reader::cursor_at(answers, *place);
+        let handled = self.handle_message(
+            net,
+            proposer,
+            sender,
+            share,
+            &mut cursor,
+            answers,
+            step,
+            words,
+        );
+        *place = cursor.place;
+        handled
     }
 }

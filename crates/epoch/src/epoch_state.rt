@@ -50,6 +50,7 @@ use steps::numbers::PROPOSE_BINCODE;
 use steps::numbers::UNEXPECTED_DECRYPTION_SHARE;
 use steps::reader::Answer;
 use steps::reader::Content;
+use steps::reader::Cursor;
 use steps::step::Step;
 use subset::subset::SubsetOutcome;
 use subset::words::ARRIVAL_FIELD;
@@ -191,12 +192,12 @@ fn input_ciphertext(
     ensures { λ r. ⌜ leftEntered r (tapeAt (now (answers .entry)) (now (place .exit))) (now (words .exit))
         ≡ leaves (out step (now (words .entry))) (inputCiphertext net p value td (tapeAt (now (answers .entry)) (now (place .entry)))) ⌝ }
 {
-    let set = td.set_ciphertext(p as u64, value, answers, place);
+    let set = td.set_ciphertext_from(p as u64, value, answers, place);
     let kept = set.td;
     let outcome = set.outcome;
     match outcome {
         SetOutcome::Set => {
-            let started = kept.start_decryption(net, p as u64, answers, place, step, words);
+            let started = kept.start_decryption_from(net, p as u64, answers, place, step, words);
             numbered(started)
         }
         SetOutcome::Invalid => {
@@ -278,7 +279,7 @@ fn share_entry(
         };
     }
     let td = load_entry(epoch, n, p);
-    let handled = td.handle_message(net, p as u64, sender, share, answers, place, step, words);
+    let handled = td.handle_message_from(net, p as u64, sender, share, answers, place, step, words);
     let called = numbered(handled);
     let kept = called.td;
     let result = called.outcome;
@@ -305,7 +306,7 @@ fn send_decryption_share(
     ensures { λ r. ⌜ left (now (epoch .exit)) r (tapeAt (now (answers .entry)) (now (place .exit))) (now (words .exit))
         ≡ leaves (out step (now (words .entry))) (sendDecryptionShare net p value (now (epoch .entry)) (tapeAt (now (answers .entry)) (now (place .entry)))) ⌝ }
 {
-    match steps::reader::ask_about(answers, place, CIPHERTEXT_READS, p as u64) {
+    match steps::reader::ask_about_from(answers, place, CIPHERTEXT_READS, p as u64) {
         Answer::Got { a, b: _ } => {
             if a == 0 {
                 let faulted = step.fault(words, DESERIALIZE_CIPHERTEXT, p as u64, 0);
@@ -672,7 +673,11 @@ fn serialise(input: SubsetInput, answers: &[u64], place: &mut usize) -> Outcome
         ≡ leaves o (serialised input w (tapeAt (now (answers .entry)) (now (place .entry))))) ⌝ }
 {
     match input {
-        SubsetInput::Proposal => match steps::reader::ask(answers, place, PROPOSAL_SERIALISED) {
+        SubsetInput::Proposal => match steps::reader::ask_from(
+            answers,
+            place,
+            PROPOSAL_SERIALISED,
+        ) {
             Answer::Got { a, b: _ } => {
                 if a == 0 {
                     return Outcome::Failed(PROPOSE_BINCODE);
@@ -701,10 +706,10 @@ fn input_subset(
 {
     match input {
         SubsetInput::Proposal => {
-            subset::subset::propose(epoch, net, INPUT_SUBSET, answers, place, step, words)
+            subset::subset::propose_from(epoch, net, INPUT_SUBSET, answers, place, step, words)
         }
         SubsetInput::Message(content, p) => {
-            subset::subset::handle_message(
+            subset::subset::handle_message_from(
                 epoch,
                 net,
                 HANDLE_SUBSET_MESSAGE,
@@ -766,8 +771,7 @@ fn call_subset(
     )
 }
 
-// `propose` and `handle_message_content`, by what comes: there is one way through the subset, so that the compiler has one frame for it.
-pub fn handle(
+fn handle_at(
     epoch: &mut [u64],
     net: NetworkInfo,
     strategy: SubsetHandlingStrategy,
@@ -800,6 +804,67 @@ pub fn handle(
             handle_decryption_share(epoch, net, sender, p, share, answers, place, step, words)
         }
     }
+}
+
+// `propose` and `handle_message_content`, by what comes: there is one way through the subset, so that the compiler has one frame for it.
+pub fn handle(
+    epoch: &mut [u64],
+    net: NetworkInfo,
+    strategy: SubsetHandlingStrategy,
+    encrypted: bool,
+    input: Input,
+    cursor: &mut Cursor,
+    answers: &[u64],
+    step: Step,
+    words: &mut [u64],
+) -> Ran
+    requires { ⌜ Network net × EpochWords (net .«num_nodes») (now epoch) × Listed (net .«num_nodes») (now epoch) × Comes input (net .«num_nodes») ⌝ }
+    ensures { λ r. ⌜ (left (now (epoch .exit)) r (tapeAt (now (answers .entry)) (now (cursor .exit) .place)) (now (words .exit))
+        ≡ leaves (out step (now (words .entry))) (inputRun net strategy encrypted input (now (epoch .entry)) (tapeAt (now (answers .entry)) (now (cursor .entry) .place))))
+        × (now (cursor .exit) .last ≡ now (cursor .entry) .last) ⌝ }
+{
+    handle_at(
+        epoch,
+        net,
+        strategy,
+        encrypted,
+        input,
+        answers,
+        &mut cursor.place,
+        step,
+        words,
+    )
+}
+
+pub fn handle_from(
+    epoch: &mut [u64],
+    net: NetworkInfo,
+    strategy: SubsetHandlingStrategy,
+    encrypted: bool,
+    input: Input,
+    answers: &[u64],
+    place: &mut usize,
+    step: Step,
+    words: &mut [u64],
+) -> Ran
+    requires { ⌜ Network net × EpochWords (net .«num_nodes») (now epoch) × Listed (net .«num_nodes») (now epoch) × Comes input (net .«num_nodes») ⌝ }
+    ensures { λ r. ⌜ left (now (epoch .exit)) r (tapeAt (now (answers .entry)) (now (place .exit))) (now (words .exit))
+        ≡ leaves (out step (now (words .entry))) (inputRun net strategy encrypted input (now (epoch .entry)) (tapeAt (now (answers .entry)) (now (place .entry)))) ⌝ }
+{
+    let mut cursor = steps::reader::cursor_at(answers, *place);
+    let ran = handle(
+        epoch,
+        net,
+        strategy,
+        encrypted,
+        input,
+        &mut cursor,
+        answers,
+        step,
+        words,
+    );
+    *place = cursor.place;
+    ran
 }
 
 // `EpochState::new`: an epoch whose instances have just been built.

@@ -22,11 +22,11 @@ use epoch::MessageContent;
 use epoch::epoch_state::Input;
 use epoch::epoch_state::Outcome;
 use epoch::epoch_state::SubsetInput;
-use epoch::epoch_state::handle;
+use epoch::epoch_state::handle_from;
 use epochwords::SubsetHandlingStrategy;
 use epochwords::batch::Handed;
 use epochwords::batch::is_ready;
-use epochwords::batch::output_batch;
+use epochwords::batch::output_batch_from;
 use epochwords::words::STATUS_AT;
 use epochwords::words::STATUS_VACANT;
 use libc::STDIN_FILENO;
@@ -120,7 +120,7 @@ fn build(epoch: &mut [u64], n: usize, answers: &[u64], place: &mut usize) -> u64
     if epoch[STATUS_AT] != STATUS_VACANT {
         return SUCCESS;
     }
-    match steps::reader::ask(answers, place, INSTANCES_BUILT) {
+    match steps::reader::ask_from(answers, place, INSTANCES_BUILT) {
         Answer::Got { a, b: _ } => {
             if a == 0 {
                 return CREATE_SUBSET;
@@ -153,7 +153,7 @@ fn enter(
     }
     if call.content == PROPOSE {
         let own = Input::Subset(SubsetInput::Proposal);
-        return handle(
+        return handle_from(
             epoch,
             net,
             strategy,
@@ -171,7 +171,7 @@ fn enter(
     match content {
         MessageContent::Subset(message) => {
             let input = Input::Subset(SubsetInput::Message(message, proposer));
-            handle(
+            handle_from(
                 epoch,
                 net,
                 strategy,
@@ -185,7 +185,7 @@ fn enter(
         }
         MessageContent::DecryptionShare(share) => {
             let input = Input::Share(sender, proposer, share);
-            handle(
+            handle_from(
                 epoch,
                 net,
                 strategy,
@@ -222,7 +222,7 @@ fn hand_out(
         };
     }
     let number = call.epoch;
-    let handed = output_batch(epoch, size, n, number, answers, place, step, words);
+    let handed = output_batch_from(epoch, size, n, number, answers, place, step, words);
     let outcome = handed.outcome;
     let done = handed.step;
     match outcome {

@@ -26,6 +26,7 @@ use steps::numbers::BATCH_OUTPUT;
 use steps::numbers::CONTRIBUTION_READS;
 use steps::numbers::ENTRY_OUTPUT;
 use steps::reader::Answer;
+use steps::reader::Cursor;
 use steps::step::Step;
 use subset::words::RECORDS_AT;
 
@@ -108,7 +109,7 @@ fn read_at(
             step,
         };
     }
-    match steps::reader::ask_about(answers, place, CONTRIBUTION_READS, p as u64) {
+    match steps::reader::ask_about_from(answers, place, CONTRIBUTION_READS, p as u64) {
         Answer::Got { a, b: _ } => {
             if a == 0 {
                 let faulted = step.fault(words, BATCH_DESERIALIZATION_FAILED, p as u64, 0);
@@ -187,8 +188,7 @@ fn put_entries(
     s
 }
 
-// Hands out the batch of an epoch that is ready: the batch's own size, then its entries. `number` is the epoch's.
-pub fn output_batch(
+fn output_batch_at(
     epoch: &[u64],
     size: usize,
     n: usize,
@@ -220,4 +220,52 @@ pub fn output_batch(
             step: s,
         },
     }
+}
+
+// Hands out the batch of an epoch that is ready: the batch's own size, then its entries. `number` is the epoch's.
+pub fn output_batch(
+    epoch: &[u64],
+    size: usize,
+    n: usize,
+    number: u64,
+    cursor: &mut Cursor,
+    answers: &[u64],
+    step: Step,
+    words: &mut [u64],
+) -> Batch
+    requires { ⌜ Records size n (now epoch) ⌝ }
+    ensures { λ r. ⌜ (leftBatch (now (epoch .entry)) r (tapeAt (now (answers .entry)) (now (cursor .exit) .place)) (now (words .exit))
+        ≡ leaves (out step (now (words .entry))) (outputBatchIn size n number (now (epoch .entry)) (tapeAt (now (answers .entry)) (now (cursor .entry) .place))))
+        × (now (cursor .exit) .last ≡ now (cursor .entry) .last) ⌝ }
+{
+    output_batch_at(
+        epoch,
+        size,
+        n,
+        number,
+        answers,
+        &mut cursor.place,
+        step,
+        words,
+    )
+}
+
+pub fn output_batch_from(
+    epoch: &[u64],
+    size: usize,
+    n: usize,
+    number: u64,
+    answers: &[u64],
+    place: &mut usize,
+    step: Step,
+    words: &mut [u64],
+) -> Batch
+    requires { ⌜ Records size n (now epoch) ⌝ }
+    ensures { λ r. ⌜ leftBatch (now (epoch .entry)) r (tapeAt (now (answers .entry)) (now (place .exit))) (now (words .exit))
+        ≡ leaves (out step (now (words .entry))) (outputBatchIn size n number (now (epoch .entry)) (tapeAt (now (answers .entry)) (now (place .entry)))) ⌝ }
+{
+    let mut cursor = steps::reader::cursor_at(answers, *place);
+    let batch = output_batch(epoch, size, n, number, &mut cursor, answers, step, words);
+    *place = cursor.place;
+    batch
 }

@@ -129,7 +129,7 @@ impl ProposalState {
         ensures { λ r. ⌜ leftTold self r (tapeAt (now (answers .entry)) (now (place .exit))) (now (words .exit))
             ≡ leaves (out step (now (words .entry))) (instanceAnswer error proposer kind content self (tapeAt (now (answers .entry)) (now (place .entry)))) ⌝ }
     {
-        match steps::reader::ask_about(answers, place, kind, proposer) {
+        match steps::reader::ask_about_from(answers, place, kind, proposer) {
             Answer::Got { a, b: _ } => {
                 if a == 0 {
                     return InstanceAnswer {
@@ -137,7 +137,7 @@ impl ProposalState {
                         step,
                     };
                 }
-                let parts = steps::reader::read_parts(
+                let parts = steps::reader::read_parts_from(
                     answers,
                     place,
                     content,

@@ -20,3 +20,4 @@ pub mod Bounded
 pub mod FailureNumbers
 pub mod StateKept
 pub mod CaseTables
+pub mod LentCursor

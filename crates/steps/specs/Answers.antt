@@ -1,9 +1,10 @@
 -- The answer table as the chain of its records, and what a reader of it is told.
-use Prim.Native.Nat.{ℕ, zero, suc, _+_, _*_, _/_}
+use Prim.Native.Nat.{ℕ, zero, suc, _+_, _-_, _*_, _/_}
 use mathlib.Core.List.{List, [], _∷_}
 use mathlib.Core.Bool.{Bool, true, false, cond, _&&_}
 use lib.ListN.{length, getD}
 use lib.Dec.{ltb, eqb}
+use Rattle.steps.specs.declared.reader.Cursor.{Cursor}
 use Rattle.steps.specs.declared.reader.Answer.{Answer}
 use Rattle.steps.specs.declared.reader.Answer.the-variants.{Got, Refused}
 use Rattle.steps.specs.declared.reader.Found.{Found}
@@ -51,6 +52,14 @@ tapeAt t i = tape i (chain t i)
 -- a call reads from the first index, which record 0 holds
 abbrev pub tapeOf : List ℕ → Tape
 tapeOf t = tapeAt t (getD t 0 0)
+
+-- the index of the table's last record, 0 where there is none
+abbrev pub lastIndex : List ℕ → ℕ
+lastIndex t = length t / 4 - 1
+
+-- the cursor at a place of the table
+abbrev pub cursorAt : List ℕ → ℕ → Cursor
+cursorAt t i = record { place = i; last = lastIndex t }
 
 -- the first record of a chain, with its four words; document 01 has no number for it
 unfoldable pub headOf : List Rec → Found

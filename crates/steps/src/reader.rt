@@ -1,6 +1,9 @@
-// The answer reader: the records of the chain, one after the other. The place is lent and moves past what was read.
+// The answer reader: the records of the chain, one after the other. The cursor is lent and its place moves past what was read.
+//
+// What reads answers is there three times, here and in each layer above. `.._at` does the work at a place. The public function is lent a cursor
+// and lends its place on. `.._from`, for callers that hold a place, makes the table's cursor there and lends it.
 ghost use mathlib.Core.Path.{_≡_};
-ghost use Rattle.steps.specs.Answers.{chain, tapeAt, asked, headOf, ask, askAbout};
+ghost use Rattle.steps.specs.Answers.{chain, tapeAt, asked, headOf, ask, askAbout, lastIndex, cursorAt};
 ghost use Rattle.steps.specs.Steps.{out, putAll};
 ghost use Rattle.steps.specs.Runs.{leaves};
 ghost use Rattle.steps.specs.Parts.{isPart, messageKind, faultKind, partEntries, outputOf, lastOf, lastOutput, left, readParts};
@@ -12,6 +15,12 @@ use crate::numbers::FAULT_PART;
 use crate::numbers::MESSAGE_PART;
 use crate::numbers::OUTPUT_PART;
 use crate::step::Step;
+
+// Where a reader stands in an answer table: the index of the record to be read next, 0 at the end, and the index of the last record.
+pub struct Cursor {
+    pub place: usize,
+    pub last: usize,
+}
 
 // What stands at a place of the answer table.
 pub enum Found {
@@ -48,14 +57,33 @@ pub struct Parts {
     pub step: Step,
 }
 
+// The index of the last record, 0 where there is none.
+fn last_index(answers: &[u64]) -> usize
+    ensures { λ r. ⌜ r ≡ lastIndex (now (answers .entry)) ⌝ }
+{
+    let records = answers.len() / 4;
+    if records == 0 {
+        return 0;
+    }
+    records - 1
+}
+
+pub fn cursor_at(answers: &[u64], place: usize) -> Cursor
+    ensures { λ r. ⌜ r ≡ cursorAt (now (answers .entry)) place ⌝ }
+{
+    let last = last_index(answers);
+    Cursor { place, last }
+}
+
 // The record at a place. A next that is not above its own record ends the chain.
-pub fn peek(answers: &[u64], place: usize) -> Found
+fn peek(answers: &[u64], place: usize, last: usize) -> Found
+    requires { ⌜ last ≡ lastIndex (now answers) ⌝ }
     ensures { λ r. ⌜ r ≡ headOf (chain (now (answers .entry)) place) ⌝ }
 {
     if place == 0 {
         return Found::End;
     }
-    if answers.len() / 4 <= place {
+    if last < place {
         return Found::End;
     }
     let word = place * 4;
@@ -74,13 +102,13 @@ pub fn peek(answers: &[u64], place: usize) -> Found
     }
 }
 
-// The next answer, which has to be of this kind.
-pub fn ask(answers: &[u64], place: &mut usize, kind: u64) -> Answer
+fn ask_at(answers: &[u64], place: &mut usize, last: usize, kind: u64) -> Answer
+    requires { ⌜ last ≡ lastIndex (now answers) ⌝ }
     ensures { λ r. ⌜ asked r (tapeAt (now (answers .entry)) (now (place .exit)))
         ≡ ask (tapeAt (now (answers .entry)) (now (place .entry))) kind ⌝ }
 {
     let at = *place;
-    match peek(answers, at) {
+    match peek(answers, at, last) {
         Found::Record {
             next,
             kind: found,
@@ -97,13 +125,33 @@ pub fn ask(answers: &[u64], place: &mut usize, kind: u64) -> Answer
     }
 }
 
-// The next answer, which has to be of this kind and about this node.
-pub fn ask_about(answers: &[u64], place: &mut usize, kind: u64, who: u64) -> Answer
+// The next answer, which has to be of this kind.
+pub fn ask(cursor: &mut Cursor, answers: &[u64], kind: u64) -> Answer
+    requires { ⌜ now cursor .last ≡ lastIndex (now answers) ⌝ }
+    ensures { λ r. ⌜ (asked r (tapeAt (now (answers .entry)) (now (cursor .exit) .place))
+        ≡ ask (tapeAt (now (answers .entry)) (now (cursor .entry) .place)) kind)
+        × (now (cursor .exit) .last ≡ now (cursor .entry) .last) ⌝ }
+{
+    ask_at(answers, &mut cursor.place, cursor.last, kind)
+}
+
+pub fn ask_from(answers: &[u64], place: &mut usize, kind: u64) -> Answer
+    ensures { λ r. ⌜ asked r (tapeAt (now (answers .entry)) (now (place .exit)))
+        ≡ ask (tapeAt (now (answers .entry)) (now (place .entry))) kind ⌝ }
+{
+    let mut cursor = cursor_at(answers, *place);
+    let answer = ask(&mut cursor, answers, kind);
+    *place = cursor.place;
+    answer
+}
+
+fn ask_about_at(answers: &[u64], place: &mut usize, last: usize, kind: u64, who: u64) -> Answer
+    requires { ⌜ last ≡ lastIndex (now answers) ⌝ }
     ensures { λ r. ⌜ asked r (tapeAt (now (answers .entry)) (now (place .exit)))
         ≡ askAbout (tapeAt (now (answers .entry)) (now (place .entry))) kind who ⌝ }
 {
     let at = *place;
-    match peek(answers, at) {
+    match peek(answers, at, last) {
         Found::Record {
             next,
             kind: found,
@@ -119,6 +167,26 @@ pub fn ask_about(answers: &[u64], place: &mut usize, kind: u64, who: u64) -> Ans
         }
         Found::End => Answer::Refused,
     }
+}
+
+// The next answer, which has to be of this kind and about this node.
+pub fn ask_about(cursor: &mut Cursor, answers: &[u64], kind: u64, who: u64) -> Answer
+    requires { ⌜ now cursor .last ≡ lastIndex (now answers) ⌝ }
+    ensures { λ r. ⌜ (asked r (tapeAt (now (answers .entry)) (now (cursor .exit) .place))
+        ≡ askAbout (tapeAt (now (answers .entry)) (now (cursor .entry) .place)) kind who)
+        × (now (cursor .exit) .last ≡ now (cursor .entry) .last) ⌝ }
+{
+    ask_about_at(answers, &mut cursor.place, cursor.last, kind, who)
+}
+
+pub fn ask_about_from(answers: &[u64], place: &mut usize, kind: u64, who: u64) -> Answer
+    ensures { λ r. ⌜ asked r (tapeAt (now (answers .entry)) (now (place .exit)))
+        ≡ askAbout (tapeAt (now (answers .entry)) (now (place .entry))) kind who ⌝ }
+{
+    let mut cursor = cursor_at(answers, *place);
+    let answer = ask_about(&mut cursor, answers, kind, who);
+    *place = cursor.place;
+    answer
 }
 
 fn is_part(kind: u64) -> bool
@@ -196,15 +264,16 @@ fn last_output(output: Output, kind: u64, b: u64) -> Output
     last_of(output, part)
 }
 
-// Reads the parts of an answer to their end.
-pub fn read_parts(
+fn read_parts_at(
     answers: &[u64],
     place: &mut usize,
+    last: usize,
     content: Content,
     proposer: u64,
     step: Step,
     words: &mut [u64],
 ) -> Parts
+    requires { ⌜ last ≡ lastIndex (now answers) ⌝ }
     ensures { λ r. ⌜ left r (tapeAt (now (answers .entry)) (now (place .exit))) (now (words .exit))
         ≡ leaves (out step (now (words .entry))) (readParts content proposer tt (tapeAt (now (answers .entry)) (now (place .entry)))) ⌝ }
 {
@@ -212,7 +281,7 @@ pub fn read_parts(
     let mut s = step;
     loop {
         let at = *place;
-        match peek(answers, at) {
+        match peek(answers, at, last) {
             Found::Record { next, kind, a, b } => {
                 if !is_part(kind) {
                     return Parts { output, step: s };
@@ -224,4 +293,46 @@ pub fn read_parts(
             Found::End => return Parts { output, step: s },
         }
     }
+}
+
+// Reads the parts of an answer to their end.
+pub fn read_parts(
+    cursor: &mut Cursor,
+    answers: &[u64],
+    content: Content,
+    proposer: u64,
+    step: Step,
+    words: &mut [u64],
+) -> Parts
+    requires { ⌜ now cursor .last ≡ lastIndex (now answers) ⌝ }
+    ensures { λ r. ⌜ (left r (tapeAt (now (answers .entry)) (now (cursor .exit) .place)) (now (words .exit))
+        ≡ leaves (out step (now (words .entry))) (readParts content proposer tt (tapeAt (now (answers .entry)) (now (cursor .entry) .place))))
+        × (now (cursor .exit) .last ≡ now (cursor .entry) .last) ⌝ }
+{
+    read_parts_at(
+        answers,
+        &mut cursor.place,
+        cursor.last,
+        content,
+        proposer,
+        step,
+        words,
+    )
+}
+
+pub fn read_parts_from(
+    answers: &[u64],
+    place: &mut usize,
+    content: Content,
+    proposer: u64,
+    step: Step,
+    words: &mut [u64],
+) -> Parts
+    ensures { λ r. ⌜ left r (tapeAt (now (answers .entry)) (now (place .exit))) (now (words .exit))
+        ≡ leaves (out step (now (words .entry))) (readParts content proposer tt (tapeAt (now (answers .entry)) (now (place .entry)))) ⌝ }
+{
+    let mut cursor = cursor_at(answers, *place);
+    let parts = read_parts(&mut cursor, answers, content, proposer, step, words);
+    *place = cursor.place;
+    parts
 }

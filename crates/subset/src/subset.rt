@@ -19,6 +19,7 @@ use steps::numbers::AGREEMENT_MESSAGE;
 use steps::numbers::BROADCAST_MESSAGE;
 use steps::numbers::BROADCAST_PROPOSAL;
 use steps::reader::Content;
+use steps::reader::Cursor;
 use steps::step::Step;
 
 // What a call of one proposal, or a round of votes, comes to.
@@ -333,8 +334,7 @@ fn then_output(
     }
 }
 
-// Proposes a value for the subset: the own proposal is broadcast. An observer proposes nothing.
-pub fn propose(
+fn propose_at(
     epoch: &mut [u64],
     net: NetworkInfo,
     error: u64,
@@ -359,6 +359,43 @@ pub fn propose(
     let outcome = passed.outcome;
     let done = passed.step;
     then_output(epoch, net, error, outcome, answers, place, done, words)
+}
+
+// Proposes a value for the subset: the own proposal is broadcast. An observer proposes nothing.
+pub fn propose(
+    epoch: &mut [u64],
+    net: NetworkInfo,
+    error: u64,
+    cursor: &mut Cursor,
+    answers: &[u64],
+    step: Step,
+    words: &mut [u64],
+) -> Handled
+    requires { ⌜ Network net × EpochWords (net .«num_nodes») (now epoch) ⌝ }
+    ensures { λ r. ⌜ (leftHandled (now (epoch .exit)) r (tapeAt (now (answers .entry)) (now (cursor .exit) .place)) (now (words .exit))
+        ≡ leaves (out step (now (words .entry))) (propose net error (now (epoch .entry)) (tapeAt (now (answers .entry)) (now (cursor .entry) .place))))
+        × (now (cursor .exit) .last ≡ now (cursor .entry) .last) ⌝ }
+{
+    propose_at(epoch, net, error, answers, &mut cursor.place, step, words)
+}
+
+pub fn propose_from(
+    epoch: &mut [u64],
+    net: NetworkInfo,
+    error: u64,
+    answers: &[u64],
+    place: &mut usize,
+    step: Step,
+    words: &mut [u64],
+) -> Handled
+    requires { ⌜ Network net × EpochWords (net .«num_nodes») (now epoch) ⌝ }
+    ensures { λ r. ⌜ leftHandled (now (epoch .exit)) r (tapeAt (now (answers .entry)) (now (place .exit))) (now (words .exit))
+        ≡ leaves (out step (now (words .entry))) (propose net error (now (epoch .entry)) (tapeAt (now (answers .entry)) (now (place .entry)))) ⌝ }
+{
+    let mut cursor = steps::reader::cursor_at(answers, *place);
+    let proposed = propose(epoch, net, error, &mut cursor, answers, step, words);
+    *place = cursor.place;
+    proposed
 }
 
 // A message of the broadcast or of the agreement of proposer p.
@@ -389,8 +426,7 @@ fn message_at(
     }
 }
 
-// Handles a message of the broadcast or of the agreement of a proposer.
-pub fn handle_message(
+fn handle_message_at(
     epoch: &mut [u64],
     net: NetworkInfo,
     error: u64,
@@ -419,4 +455,65 @@ pub fn handle_message(
     let outcome = passed.outcome;
     let done = passed.step;
     then_output(epoch, net, error, outcome, answers, place, done, words)
+}
+
+// Handles a message of the broadcast or of the agreement of a proposer.
+pub fn handle_message(
+    epoch: &mut [u64],
+    net: NetworkInfo,
+    error: u64,
+    content: Content,
+    proposer: usize,
+    cursor: &mut Cursor,
+    answers: &[u64],
+    step: Step,
+    words: &mut [u64],
+) -> Handled
+    requires { ⌜ Network net × EpochWords (net .«num_nodes») (now epoch) × (proposer < net .«num_nodes») ⌝ }
+    ensures { λ r. ⌜ (leftHandled (now (epoch .exit)) r (tapeAt (now (answers .entry)) (now (cursor .exit) .place)) (now (words .exit))
+        ≡ leaves (out step (now (words .entry))) (handleMessage net error content proposer (now (epoch .entry)) (tapeAt (now (answers .entry)) (now (cursor .entry) .place))))
+        × (now (cursor .exit) .last ≡ now (cursor .entry) .last) ⌝ }
+{
+    handle_message_at(
+        epoch,
+        net,
+        error,
+        content,
+        proposer,
+        answers,
+        &mut cursor.place,
+        step,
+        words,
+    )
+}
+
+pub fn handle_message_from(
+    epoch: &mut [u64],
+    net: NetworkInfo,
+    error: u64,
+    content: Content,
+    proposer: usize,
+    answers: &[u64],
+    place: &mut usize,
+    step: Step,
+    words: &mut [u64],
+) -> Handled
+    requires { ⌜ Network net × EpochWords (net .«num_nodes») (now epoch) × (proposer < net .«num_nodes») ⌝ }
+    ensures { λ r. ⌜ leftHandled (now (epoch .exit)) r (tapeAt (now (answers .entry)) (now (place .exit))) (now (words .exit))
+        ≡ leaves (out step (now (words .entry))) (handleMessage net error content proposer (now (epoch .entry)) (tapeAt (now (answers .entry)) (now (place .entry)))) ⌝ }
+{
+    let mut cursor = steps::reader::cursor_at(answers, *place);
+    let handled = handle_message(
+        epoch,
+        net,
+        error,
+        content,
+        proposer,
+        &mut cursor,
+        answers,
+        step,
+        words,
+    );
+    *place = cursor.place;
+    handled
 }

@@ -89,14 +89,21 @@ fn content_of(kind: u64) -> Content {
 // An answer of this kind about this node, with its parts.
 fn hear(answers: &[u64], kind: u64, who: u64, step: Step, words: &mut [u64]) -> Heard {
     let mut place = first(answers);
-    match steps::reader::ask_about(answers, &mut place, kind, who) {
+    match steps::reader::ask_about_from(answers, &mut place, kind, who) {
         Answer::Got { a, b: _ } => {
             if a == 0 {
                 let told = Told::No;
                 return Heard { told, step };
             }
             let content = content_of(kind);
-            let parts = steps::reader::read_parts(answers, &mut place, content, who, step, words);
+            let parts = steps::reader::read_parts_from(
+                answers,
+                &mut place,
+                content,
+                who,
+                step,
+                words,
+            );
             let output = parts.output;
             let told = Told::Output(output);
             let done = parts.step;
@@ -191,7 +198,7 @@ fn write_share(
     let net = network();
     let mut place = first(answers);
     let step = begin(count, words, 0);
-    td.handle_message(net, 0, sender, handle, answers, &mut place, step, words);
+    td.handle_message_from(net, 0, sender, handle, answers, &mut place, step, words);
 }
 
 // A share of a sender for proposer 0, at an observer of four nodes: the instance afterwards.
@@ -201,7 +208,7 @@ fn share(td: ThresholdDecrypt, sender: usize, handle: u64, answers: &[u64]) -> T
     let net = network();
     let mut place = first(answers);
     let mut none = [0u64; 1];
-    let handled = td.handle_message(
+    let handled = td.handle_message_from(
         net,
         0,
         sender,

@@ -21,11 +21,11 @@ use epoch::MessageContent;
 use epoch::epoch_state::Input;
 use epoch::epoch_state::Outcome;
 use epoch::epoch_state::SubsetInput;
-use epoch::epoch_state::handle;
+use epoch::epoch_state::handle_from;
 use epoch::epoch_state::new_epoch;
 use epochwords::batch::Handed;
 use epochwords::batch::is_ready;
-use epochwords::batch::output_batch;
+use epochwords::batch::output_batch_from;
 use epochwords::words::STATUS_AT;
 use epochwords::words::STATUS_VACANT;
 use state::words::AHEAD_AT;
@@ -39,6 +39,7 @@ use state::words::strategy_of;
 use steps::numbers::CREATE_SUBSET;
 use steps::numbers::INSTANCES_BUILT;
 use steps::reader::Answer;
+use steps::reader::Cursor;
 use steps::step::Step;
 use subset::words::RECORD_FIELDS;
 
@@ -95,7 +96,7 @@ fn try_output_batch(
             step,
         };
     }
-    let batch = output_batch(words, size, n, number, answers, place, step, table);
+    let batch = output_batch_from(words, size, n, number, answers, place, step, table);
     let s = batch.step;
     let outcome = batch.outcome;
     match outcome {
@@ -181,7 +182,7 @@ fn build(n: usize, words: &mut [u64], answers: &[u64], place: &mut usize) -> Out
     if words[STATUS_AT] != STATUS_VACANT {
         return Outcome::Done;
     }
-    match steps::reader::ask(answers, place, INSTANCES_BUILT) {
+    match steps::reader::ask_from(answers, place, INSTANCES_BUILT) {
         Answer::Got { a, b: _ } => {
             if a == 0 {
                 return Outcome::Failed(CREATE_SUBSET);
@@ -227,7 +228,7 @@ fn call_body(
     let strategy = strategy_of(state);
     let encrypted = encrypted_in(state, epoch);
     let input = input_of(call);
-    handle(
+    handle_from(
         words,
         net,
         strategy,
@@ -267,8 +268,7 @@ fn call_epoch(
     call_body(state, epoch, call, words, answers, place, step, table)
 }
 
-// A run: the epoch's call on its words, then batches are handed out. The state is only read.
-pub fn run(
+fn run_at(
     state: &[u64],
     epoch: u64,
     call: Call,
@@ -309,4 +309,52 @@ pub fn run(
             step: all,
         },
     }
+}
+
+// A run: the epoch's call on its words, then batches are handed out. The state is only read.
+pub fn run(
+    state: &[u64],
+    epoch: u64,
+    call: Call,
+    words: &mut [u64],
+    cursor: &mut Cursor,
+    answers: &[u64],
+    step: Step,
+    table: &mut [u64],
+) -> Ran
+    requires { ⌜ (stateOk (now state) ≡ true) × CallOk call (nodes (now state)) × (length (now words) ≡ epochLength (nodes (now state))) ⌝ }
+    ensures { λ r. ⌜ (leftRan r (now (words .exit)) (tapeAt (now (answers .entry)) (now (cursor .exit) .place)) (now (table .exit))
+        ≡ leaves (out step (now (table .entry))) (callWork call epoch (now (state .entry)) (tapeAt (now (answers .entry)) (now (cursor .entry) .place))))
+        × (now (cursor .exit) .last ≡ now (cursor .entry) .last) ⌝ }
+{
+    run_at(
+        state,
+        epoch,
+        call,
+        words,
+        answers,
+        &mut cursor.place,
+        step,
+        table,
+    )
+}
+
+pub fn run_from(
+    state: &[u64],
+    epoch: u64,
+    call: Call,
+    words: &mut [u64],
+    answers: &[u64],
+    place: &mut usize,
+    step: Step,
+    table: &mut [u64],
+) -> Ran
+    requires { ⌜ (stateOk (now state) ≡ true) × CallOk call (nodes (now state)) × (length (now words) ≡ epochLength (nodes (now state))) ⌝ }
+    ensures { λ r. ⌜ leftRan r (now (words .exit)) (tapeAt (now (answers .entry)) (now (place .exit))) (now (table .exit))
+        ≡ leaves (out step (now (table .entry))) (callWork call epoch (now (state .entry)) (tapeAt (now (answers .entry)) (now (place .entry)))) ⌝ }
+{
+    let mut cursor = steps::reader::cursor_at(answers, *place);
+    let ran = run(state, epoch, call, words, &mut cursor, answers, step, table);
+    *place = cursor.place;
+    ran
 }

@@ -7,7 +7,7 @@ use Rattle.epochs.proofs.enter.Statement.{statement}
 use Rattle.epochs.proofs.enter.Tie as tie
 use Rattle.epochs.proofs.enter.Reads as reads
 use Rattle.epochs.proofs.enter.Lts as lts
-use Rattle.epoch.proofs.epoch_state.handle.Reads as handle-reads
+use Rattle.epoch.proofs.epoch_state.handle_from.Reads as handle-from-reads
 use Rattle.epochs.proofs.content_of.Reads as content-of-reads
 use Rattle.epochwords.proofs.range.epoch_in_range.Reads as epoch-in-range-reads
 
@@ -28,8 +28,8 @@ in-range true e = refl
 in-range false e = sym e
 
 -- src/main.rt:156:9
-handle-requires : tie.Need-handle-requires
-handle-requires c κs = (c .before .before .before .before .before .before .before .before .before .before .before .before .pre .0, c .before .before .before .before .before .before .before .before .before .before .before .before .pre .1, (ok-listed _ _ (epoch-below _ _ _ (c .before .before .before .before .before .before .before .before .before .before .before .before .pre .0 .some) (c .before .before .before .before .before .before .before .before .before .before .before .before .pre .1 .long) (sym (c .before .before .before .before .before .before .epoch-in-range .ensures) ∙ in-range _ (c .before .before .before .before .before .if1 .left)))), tt)
+handle-from-requires : tie.Need-handle-from-requires
+handle-from-requires c κs = (c .before .before .before .before .before .before .before .before .before .before .before .before .pre .0, c .before .before .before .before .before .before .before .before .before .before .before .before .pre .1, (ok-listed _ _ (epoch-below _ _ _ (c .before .before .before .before .before .before .before .before .before .before .before .before .pre .0 .some) (c .before .before .before .before .before .before .before .before .before .before .before .before .pre .1 .long) (sym (c .before .before .before .before .before .before .epoch-in-range .ensures) ∙ in-range _ (c .before .before .before .before .before .if1 .left)))), tt)
 
 -- src/main.rt:156:9
 same-length-2 : tie.Need-same-length-2
@@ -52,16 +52,16 @@ enum-known-content : tie.Need-enum-known-content
 enum-known-content c = search needs
 
 -- src/main.rt:174:13
-handle-requires-2 : tie.Need-handle-requires-2
-handle-requires-2 c κs = (c .before .before .before .before .before .before .before .before .before .before .before .before .before .before .before .before .pre .0, c .before .before .before .before .before .before .before .before .before .before .before .before .before .before .before .before .pre .1, (ok-listed _ _ (epoch-below _ _ _ (c .before .before .before .before .before .before .before .before .before .before .before .before .before .before .before .before .pre .0 .some) (c .before .before .before .before .before .before .before .before .before .before .before .before .before .before .before .before .pre .1 .long) (sym (c .before .before .before .before .before .before .before .before .before .before .epoch-in-range .ensures) ∙ in-range _ (c .before .before .before .before .before .before .before .before .before .if1 .left)))), c .before .before .before .before .before .before .before .before .before .before .before .before .before .before .before .before .pre .3)
+handle-from-requires-2 : tie.Need-handle-from-requires-2
+handle-from-requires-2 c κs = (c .before .before .before .before .before .before .before .before .before .before .before .before .before .before .before .before .pre .0, c .before .before .before .before .before .before .before .before .before .before .before .before .before .before .before .before .pre .1, (ok-listed _ _ (epoch-below _ _ _ (c .before .before .before .before .before .before .before .before .before .before .before .before .before .before .before .before .pre .0 .some) (c .before .before .before .before .before .before .before .before .before .before .before .before .before .before .before .before .pre .1 .long) (sym (c .before .before .before .before .before .before .before .before .before .before .epoch-in-range .ensures) ∙ in-range _ (c .before .before .before .before .before .before .before .before .before .if1 .left)))), c .before .before .before .before .before .before .before .before .before .before .before .before .before .before .before .before .pre .3)
 
 -- src/main.rt:186:41
 enum-known-content-2 : tie.Need-enum-known-content-2
 enum-known-content-2 c = search needs
 
 -- src/main.rt:188:13
-handle-requires-3 : tie.Need-handle-requires-3
-handle-requires-3 c κs = (c .before .before .before .before .before .before .before .before .before .before .before .before .before .before .before .before .pre .0, c .before .before .before .before .before .before .before .before .before .before .before .before .before .before .before .before .pre .1, (ok-listed _ _ (epoch-below _ _ _ (c .before .before .before .before .before .before .before .before .before .before .before .before .before .before .before .before .pre .0 .some) (c .before .before .before .before .before .before .before .before .before .before .before .before .before .before .before .before .pre .1 .long) (sym (c .before .before .before .before .before .before .before .before .before .before .epoch-in-range .ensures) ∙ in-range _ (c .before .before .before .before .before .before .before .before .before .if1 .left)))), (c .before .before .before .before .before .before .before .before .before .before .before .before .before .before .before .before .pre .2, c .before .before .before .before .before .before .before .before .before .before .before .before .before .before .before .before .pre .3))
+handle-from-requires-3 : tie.Need-handle-from-requires-3
+handle-from-requires-3 c κs = (c .before .before .before .before .before .before .before .before .before .before .before .before .before .before .before .before .pre .0, c .before .before .before .before .before .before .before .before .before .before .before .before .before .before .before .before .pre .1, (ok-listed _ _ (epoch-below _ _ _ (c .before .before .before .before .before .before .before .before .before .before .before .before .before .before .before .before .pre .0 .some) (c .before .before .before .before .before .before .before .before .before .before .before .before .before .before .before .before .pre .1 .long) (sym (c .before .before .before .before .before .before .before .before .before .before .epoch-in-range .ensures) ∙ in-range _ (c .before .before .before .before .before .before .before .before .before .if1 .left)))), (c .before .before .before .before .before .before .before .before .before .before .before .before .before .before .before .before .pre .2, c .before .before .before .before .before .before .before .before .before .before .before .before .before .before .before .before .pre .3))
 
 -- src/main.rt:136:1
 same-length-4 : tie.Need-same-length-4
@@ -94,15 +94,15 @@ enter-spec =
     epoch-in-range-requires
     same-length
     returns
-    handle-requires
+    handle-from-requires
     same-length-2
     same-length-3
     returns-2
     content-of-requires
     enum-known-content
-    handle-requires-2
+    handle-from-requires-2
     enum-known-content-2
-    handle-requires-3
+    handle-from-requires-3
     same-length-4
     same-length-5
     returns-3

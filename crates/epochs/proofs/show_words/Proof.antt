@@ -15,47 +15,47 @@ Inv-loop words i₀ i = i ≤ 128
 abbrev μ-loop : tie.MeasureT-loop
 μ-loop words i₀ i = 128 - i
 
--- src/main.rt:334:9
+-- src/main.rt:365:9
 slice-aggregate-say : tie.Need-slice-aggregate-say Inv-loop μ-loop
 slice-aggregate-say c = search needs
 
--- src/main.rt:334:5
+-- src/main.rt:365:5
 say-requires : tie.Need-say-requires Inv-loop μ-loop
 say-requires c κs = search needs
 
--- src/main.rt:336:5
+-- src/main.rt:367:5
 loop-holds : tie.Need-loop-holds Inv-loop μ-loop
 loop-holds c = search needs
 
--- src/main.rt:337:22
+-- src/main.rt:368:22
 mul-show-word : tie.Need-mul-show-word Inv-loop μ-loop
 mul-show-word c = search needs
 
--- src/main.rt:337:22
+-- src/main.rt:368:22
 element-copy-out-show-word : tie.Need-element-copy-out-show-word Inv-loop μ-loop
 element-copy-out-show-word c = search needs
 
--- src/main.rt:337:9
+-- src/main.rt:368:9
 show-word-requires : tie.Need-show-word-requires Inv-loop μ-loop
 show-word-requires c κs = search needs
 
--- src/main.rt:338:9
+-- src/main.rt:369:9
 add-i : tie.Need-add-i Inv-loop μ-loop
 add-i c = search needs
 
--- src/main.rt:336:5
+-- src/main.rt:367:5
 loop-less : tie.Need-loop-less Inv-loop μ-loop
 loop-less c = search needs
 
--- src/main.rt:336:5
+-- src/main.rt:367:5
 loop-again : tie.Need-loop-again Inv-loop μ-loop
 loop-again c = search needs
 
--- src/main.rt:340:5
+-- src/main.rt:371:5
 line-ends-requires : tie.Need-line-ends-requires Inv-loop μ-loop
 line-ends-requires c κs = search needs
 
--- src/main.rt:333:1
+-- src/main.rt:364:1
 returns : tie.Need-returns Inv-loop μ-loop
 returns c = search needs
 

@@ -8,23 +8,23 @@ use Rattle.epoch.proofs.epoch_state.accept.Reads as reads
 use Rattle.epoch.proofs.epoch_state.accept.Lts as lts
 use Rattle.steps.proofs.bits.with_bit.Reads as with-bit-reads
 
--- src/epoch_state.rt:76:25
+-- src/epoch_state.rt:105:35
 slice-read-with-bit : tie.Need-slice-read-with-bit
 slice-read-with-bit c = search needs
 
--- src/epoch_state.rt:76:16
+-- src/epoch_state.rt:105:26
 with-bit-requires : tie.Need-with-bit-requires
 with-bit-requires c κs = search needs
 
--- src/epoch_state.rt:76:5
+-- src/epoch_state.rt:105:5
 slice-write-epoch : tie.Need-slice-write-epoch
 slice-write-epoch c = search needs
 
--- src/epoch_state.rt:72:1
+-- src/epoch_state.rt:101:1
 same-length : tie.Need-same-length
 same-length c = search needs
 
--- src/epoch_state.rt:72:1
+-- src/epoch_state.rt:101:1
 returns : tie.Need-returns
 unfolding accept
 returns c = rw (c .with-bit .ensures)

@@ -9,43 +9,43 @@ use Rattle.epoch.proofs.epoch_state.drop_proposal.Tie as tie
 use Rattle.epoch.proofs.epoch_state.drop_proposal.Reads as reads
 use Rattle.epoch.proofs.epoch_state.drop_proposal.Lts as lts
 
--- src/epoch_state.rt:329:24
+-- src/epoch_state.rt:358:32
 add-at : tie.Need-add-at
 add-at c = search needs
 
--- src/epoch_state.rt:329:19
+-- src/epoch_state.rt:358:27
 mul-at : tie.Need-mul-at
 mul-at c = omega (arith, within-record (c .args .n) (c .args .p) 7 (c .pre .1) (omega arith), epoch-small (c .args .n) (c .pre .0 .few), c .pre .0 .few, c .pre .0 .long)
 
--- src/epoch_state.rt:329:14
+-- src/epoch_state.rt:358:14
 add-at-2 : tie.Need-add-at-2
 add-at-2 c = omega (arith, within-record (c .args .n) (c .args .p) 7 (c .pre .1) (omega arith), epoch-small (c .args .n) (c .pre .0 .few), c .pre .0 .few, c .pre .0 .long)
 
--- src/epoch_state.rt:330:5
+-- src/epoch_state.rt:359:5
 mul-epoch : tie.Need-mul-epoch
 mul-epoch c = omega (arith, within-record (c .args .n) (c .args .p) 7 (c .pre .1) (omega arith), epoch-small (c .args .n) (c .pre .0 .few), c .pre .0 .few, c .pre .0 .long)
 
--- src/epoch_state.rt:330:5
+-- src/epoch_state.rt:359:5
 slice-write-epoch : tie.Need-slice-write-epoch
 slice-write-epoch c = omega (arith, within-record (c .args .n) (c .args .p) 7 (c .pre .1) (omega arith), epoch-small (c .args .n) (c .pre .0 .few), c .pre .0 .few, c .pre .0 .long)
 
--- src/epoch_state.rt:331:11
+-- src/epoch_state.rt:360:11
 add-epoch : tie.Need-add-epoch
 add-epoch c = omega (arith, within-record (c .args .n) (c .args .p) 7 (c .pre .1) (omega arith), epoch-small (c .args .n) (c .pre .0 .few), c .pre .0 .few, c .pre .0 .long)
 
--- src/epoch_state.rt:331:5
+-- src/epoch_state.rt:360:5
 mul-epoch-2 : tie.Need-mul-epoch-2
 mul-epoch-2 c = omega (arith, within-record (c .args .n) (c .args .p) 7 (c .pre .1) (omega arith), epoch-small (c .args .n) (c .pre .0 .few), c .pre .0 .few, c .pre .0 .long)
 
--- src/epoch_state.rt:331:5
+-- src/epoch_state.rt:360:5
 slice-write-epoch-2 : tie.Need-slice-write-epoch-2
 slice-write-epoch-2 c = simp length-set (omega (arith, within-record (c .args .n) (c .args .p) 7 (c .pre .1) (omega arith), epoch-small (c .args .n) (c .pre .0 .few), c .pre .0 .few, c .pre .0 .long))
 
--- src/epoch_state.rt:325:1
+-- src/epoch_state.rt:354:1
 same-length : tie.Need-same-length
 same-length c = search needs
 
--- src/epoch_state.rt:325:1
+-- src/epoch_state.rt:354:1
 returns : tie.Need-returns
 returns c = dropped (c .args .n) (c .args .p) (c .args .epoch .now)
 

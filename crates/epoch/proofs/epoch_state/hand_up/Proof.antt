@@ -11,55 +11,55 @@ use Rattle.epoch.proofs.epoch_state.first_contributions.Reads as first-
 use Rattle.epoch.proofs.epoch_state.is_done.Reads as is-done-reads
 use Rattle.epoch.proofs.epoch_state.process_subset.Reads as process-subset-reads
 
--- src/epoch_state.rt:630:33
+-- src/epoch_state.rt:639:33
 enum-told : tie.Need-enum-told
 enum-told c = search needs
 
--- src/epoch_state.rt:630:13
+-- src/epoch_state.rt:639:13
 first-contributions-requires : tie.Need-first-contributions-requires
 first-contributions-requires c κs = search needs
 
--- src/epoch_state.rt:636:31
+-- src/epoch_state.rt:645:31
 enum-known-outcome : tie.Need-enum-known-outcome
 enum-known-outcome c = search needs
 
--- src/epoch_state.rt:637:13
+-- src/epoch_state.rt:646:13
 first-contributions-requires-2 : tie.Need-first-contributions-requires-2
 first-contributions-requires-2 c κs = search needs
 
--- src/epoch_state.rt:644:17
+-- src/epoch_state.rt:653:17
 is-done-requires : tie.Need-is-done-requires
 is-done-requires c κs = search needs
 
--- src/epoch_state.rt:645:13
+-- src/epoch_state.rt:654:13
 process-subset-requires : tie.Need-process-subset-requires
 process-subset-requires c κs = search needs
 
--- src/epoch_state.rt:611:1
+-- src/epoch_state.rt:620:1
 same-length : tie.Need-same-length
 same-length c = search needs
 
--- src/epoch_state.rt:611:1
+-- src/epoch_state.rt:620:1
 returns : tie.Need-returns
 returns c = up-refused _ _ _ _ _ _ _ _ (c .before .before .first-contributions .ensures) _ (c .before .before .before .before .enum-told .given .1)
 
--- src/epoch_state.rt:611:1
+-- src/epoch_state.rt:620:1
 same-length-2 : tie.Need-same-length-2
 same-length-2 c = search needs
 
--- src/epoch_state.rt:611:1
+-- src/epoch_state.rt:620:1
 returns-2 : tie.Need-returns-2
 returns-2 c = up-failed _ _ _ _ _ _ _ _ (c .before .before .first-contributions2 .ensures) _ _ (c .before .before .before .before .before .outcome .given .1)
 
--- src/epoch_state.rt:611:1
+-- src/epoch_state.rt:620:1
 same-length-3 : tie.Need-same-length-3
 same-length-3 c = search needs
 
--- src/epoch_state.rt:611:1
+-- src/epoch_state.rt:620:1
 same-length-4 : tie.Need-same-length-4
 same-length-4 c = search needs
 
--- src/epoch_state.rt:611:1
+-- src/epoch_state.rt:620:1
 returns-3 : tie.Need-returns-3
 returns-3 c = c .before .before .before .before .process-subset .ensures ∙ rw (c .before .before .before .before .before .before .before .before .is-done .ensures) (ap (leaves _) (sym (up-goes _ _ _ _ (c .before .before .before .before .before .before .before .before .before .before .before .before .before .args .outcome) _ _ (c .before .before .before .before .before .before .before .before .before .match .keys3))))
 

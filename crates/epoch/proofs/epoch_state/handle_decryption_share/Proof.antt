@@ -14,44 +14,44 @@ use Rattle.epoch.proofs.epoch_state.share_entry.Reads as share-entry-re
 use Rattle.steps.proofs.bits.has_bit.Reads as has-bit-reads
 use Rattle.steps.proofs.step.Step.fault.Reads as fault-reads
 
--- src/epoch_state.rt:313:28
+-- src/epoch_state.rt:342:28
 slice-read-has-bit : tie.Need-slice-read-has-bit
 slice-read-has-bit c = search needs
 
--- src/epoch_state.rt:313:9
+-- src/epoch_state.rt:342:9
 has-bit-requires : tie.Need-has-bit-requires
 has-bit-requires c κs = search needs
 
--- src/epoch_state.rt:314:9
+-- src/epoch_state.rt:343:9
 slice-read-if1 : tie.Need-slice-read-if1
 slice-read-if1 c = search needs
 
--- src/epoch_state.rt:315:13
+-- src/epoch_state.rt:344:13
 fault-requires : tie.Need-fault-requires
 fault-requires c κs = search needs
 
--- src/epoch_state.rt:316:9
+-- src/epoch_state.rt:345:9
 same-length : tie.Need-same-length
 same-length c = search needs
 
--- src/epoch_state.rt:316:9
+-- src/epoch_state.rt:345:9
 returns : tie.Need-returns
 unfolding putAll isAccepted
 returns c = share-unexpected _ _ _ _ _ _ (rw (← c .before .before .before .before .before .before .has-bit .ensures) (c .before .before .before .before .if1 .taken)) _ _ (c .before .before .fault .ensures)
 
--- src/epoch_state.rt:321:5
+-- src/epoch_state.rt:350:5
 share-entry-requires : tie.Need-share-entry-requires
 share-entry-requires c κs = search needs
 
--- src/epoch_state.rt:298:1
+-- src/epoch_state.rt:327:1
 same-length-2 : tie.Need-same-length-2
 same-length-2 c = search needs
 
--- src/epoch_state.rt:298:1
+-- src/epoch_state.rt:327:1
 same-length-3 : tie.Need-same-length-3
 same-length-3 c = search needs
 
--- src/epoch_state.rt:298:1
+-- src/epoch_state.rt:327:1
 returns-2 : tie.Need-returns-2
 unfolding isAccepted
 returns-2 c = c .before .before .before .before .share-entry .ensures ∙ ap (leaves _) (sym (share-goes _ _ _ _ _ _ (rw (← c .before .before .before .before .before .before .before .before .before .before .has-bit .ensures) (c .before .before .before .before .before .before .before .before .if1 .left))))

@@ -6,15 +6,15 @@ use Rattle.epoch.proofs.epoch_state.is_done.Tie as tie
 use Rattle.epoch.proofs.epoch_state.is_done.Reads as reads
 use Rattle.epoch.proofs.epoch_state.is_done.Lts as lts
 
--- src/epoch_state.rt:605:32
+-- src/epoch_state.rt:614:32
 enum-told : tie.Need-enum-told
 enum-told c = search needs
 
--- src/epoch_state.rt:601:1
+-- src/epoch_state.rt:610:1
 returns : tie.Need-returns
 returns c = search needs
 
--- src/epoch_state.rt:601:1
+-- src/epoch_state.rt:610:1
 returns-2 : tie.Need-returns-2
 returns-2 c = not-ended (c .before .args .outcome) (c .match .keys2)
 

@@ -17,39 +17,39 @@ Inv-loop epoch₀ n i₀ epoch i = (i ≤ length epoch₀) × (length epoch ≡ 
 abbrev μ-loop : tie.MeasureT-loop
 μ-loop epoch₀ n i₀ epoch i = length epoch₀ - i
 
--- src/epoch_state.rt:576:5
+-- src/epoch_state.rt:815:5
 loop-holds : tie.Need-loop-holds Inv-loop μ-loop
 loop-holds c = (omega arith, refl, refl)
 
--- src/epoch_state.rt:577:9
+-- src/epoch_state.rt:816:9
 mul-epoch : tie.Need-mul-epoch Inv-loop μ-loop
 mul-epoch c = search needs
 
--- src/epoch_state.rt:577:9
+-- src/epoch_state.rt:816:9
 slice-write-epoch : tie.Need-slice-write-epoch Inv-loop μ-loop
 slice-write-epoch c = search needs
 
--- src/epoch_state.rt:578:9
+-- src/epoch_state.rt:817:9
 add-i : tie.Need-add-i Inv-loop μ-loop
 add-i c = search needs
 
--- src/epoch_state.rt:576:5
+-- src/epoch_state.rt:815:5
 loop-less : tie.Need-loop-less Inv-loop μ-loop
 loop-less c = search needs
 
--- src/epoch_state.rt:576:5
+-- src/epoch_state.rt:815:5
 loop-again : tie.Need-loop-again Inv-loop μ-loop
 loop-again c = (omega arith, simp length-set (c .before .loop .inv .1), zero-turn (c .before .loop .i) (c .before .before .args .epoch .now) _ (omega (arith, c .before .loop .inv .1, c .loop-test .taken)) (c .before .loop .inv .2))
 
--- src/epoch_state.rt:580:5
+-- src/epoch_state.rt:819:5
 slice-write-epoch-2 : tie.Need-slice-write-epoch-2 Inv-loop μ-loop
 slice-write-epoch-2 c = omega (arith, c .before .loop .inv .1, c .before .before .pre .long)
 
--- src/epoch_state.rt:571:1
+-- src/epoch_state.rt:810:1
 same-length : tie.Need-same-length Inv-loop μ-loop
 same-length c = simp length-set (c .before .loop .inv .1)
 
--- src/epoch_state.rt:571:1
+-- src/epoch_state.rt:810:1
 returns : tie.Need-returns Inv-loop μ-loop
 returns c = zero-done (c .before .before .args .n) (c .before .loop .i) (c .before .before .args .epoch .now) _ (c .before .before .pre .long) (c .before .loop .inv .0) (omega (arith, c .before .loop .inv .1, c .loop-test .left)) (c .before .loop .inv .2)
 

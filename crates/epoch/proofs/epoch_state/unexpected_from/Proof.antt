@@ -20,31 +20,31 @@ Inv-loop n td words₀ s₀ i₀ words s i = (i ≤ n) × (length words ≡ leng
 abbrev μ-loop : tie.MeasureT-loop
 μ-loop n td words₀ s₀ i₀ words s i = n - i
 
--- src/epoch_state.rt:363:5
+-- src/epoch_state.rt:392:5
 loop-holds : tie.Need-loop-holds Inv-loop μ-loop
 loop-holds c = (omega arith, refl, rw (all-left (c .before .args .n)))
 
--- src/epoch_state.rt:364:9
+-- src/epoch_state.rt:393:9
 unexpected-share-requires : tie.Need-unexpected-share-requires Inv-loop μ-loop
 unexpected-share-requires c κs = omega arith
 
--- src/epoch_state.rt:365:9
+-- src/epoch_state.rt:394:9
 add-i : tie.Need-add-i Inv-loop μ-loop
 add-i c = search needs
 
--- src/epoch_state.rt:363:5
+-- src/epoch_state.rt:392:5
 loop-less : tie.Need-loop-less Inv-loop μ-loop
 loop-less c = search needs
 
--- src/epoch_state.rt:363:5
+-- src/epoch_state.rt:392:5
 loop-again : tie.Need-loop-again Inv-loop μ-loop
 loop-again c = (omega arith, c .before .before .unexpected-share .kept .1 .1 .1 .0 ∙ c .before .before .before .before .before .loop .inv .1, unexpected-turn _ _ _ _ (c .before .before .before .before .loop-test .taken) _ (c .before .before .unexpected-share .ensures) ∙ c .before .before .before .before .before .loop .inv .2)
 
--- src/epoch_state.rt:356:1
+-- src/epoch_state.rt:385:1
 same-length : tie.Need-same-length Inv-loop μ-loop
 same-length c = c .before .loop .inv .1
 
--- src/epoch_state.rt:356:1
+-- src/epoch_state.rt:385:1
 returns : tie.Need-returns Inv-loop μ-loop
 returns c = unexpected-done _ _ _ _ (c .loop-test .left) ∙ c .before .loop .inv .2
 

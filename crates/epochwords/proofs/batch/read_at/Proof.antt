@@ -11,7 +11,7 @@ use Rattle.epochwords.proofs.batch.read_at.Reads as reads
 use Rattle.epochwords.proofs.batch.read_at.Lts as lts
 use Rattle.epochwords.proofs.batch.is_read.Reads as is-read-reads
 use Rattle.steps.proofs.bits.with_bit.Reads as with-bit-reads
-use Rattle.steps.proofs.reader.ask_about.Reads as ask-about-reads
+use Rattle.steps.proofs.reader.ask_about_from.Reads as ask-about-from-reads
 use Rattle.steps.proofs.step.Step.fault.Reads as fault-reads
 
 -- src/batch.rt:105:9
@@ -24,8 +24,8 @@ unfolding putAll
 returns c = ap (leaves _) (read-off _ _ _ _ _ (sym (c .before .is-read .ensures) ∙ not-true _ (c .if1 .taken)))
 
 -- src/batch.rt:111:11
-ask-about-requires : tie.Need-ask-about-requires
-ask-about-requires c κs = search needs
+ask-about-from-requires : tie.Need-ask-about-from-requires
+ask-about-from-requires c κs = search needs
 
 -- src/batch.rt:112:23
 enum-known-a : tie.Need-enum-known-a
@@ -42,7 +42,7 @@ same-length c = search needs
 -- src/batch.rt:115:17
 returns-2 : tie.Need-returns-2
 unfolding putAll
-returns-2 c = read-bad _ _ _ _ _ _ _ (c .before .before .before .before .before .before .before .before .ask-about .ensures) (sym (c .before .before .before .before .before .before .before .before .before .before .before .is-read .ensures) ∙ not-false _ (c .before .before .before .before .before .before .before .before .before .before .if1 .left)) _ _ (c .before .before .before .before .before .before .a .given .1) (c .before .before .before .before .if2 .taken) _ _ (c .before .before .fault .ensures)
+returns-2 c = read-bad _ _ _ _ _ _ _ (c .before .before .before .before .before .before .before .before .ask-about-from .ensures) (sym (c .before .before .before .before .before .before .before .before .before .before .before .is-read .ensures) ∙ not-false _ (c .before .before .before .before .before .before .before .before .before .before .if1 .left)) _ _ (c .before .before .before .before .before .before .a .given .1) (c .before .before .before .before .if2 .taken) _ _ (c .before .before .fault .ensures)
 
 -- src/batch.rt:121:44
 with-bit-requires : tie.Need-with-bit-requires
@@ -55,12 +55,12 @@ enum-told c = search needs
 -- src/batch.rt:91:1
 returns-3 : tie.Need-returns-3
 unfolding putAll
-returns-3 c = rw (c .with-bit .ensures) (ap (leaves _) (read-good _ _ _ _ _ _ _ (c .before .before .before .before .before .ask-about .ensures) (sym (c .before .before .before .before .before .before .before .before .is-read .ensures) ∙ not-false _ (c .before .before .before .before .before .before .before .if1 .left)) _ _ (c .before .before .before .a .given .1) (c .before .if2 .left)))
+returns-3 c = rw (c .with-bit .ensures) (ap (leaves _) (read-good _ _ _ _ _ _ _ (c .before .before .before .before .before .ask-about-from .ensures) (sym (c .before .before .before .before .before .before .before .before .is-read .ensures) ∙ not-false _ (c .before .before .before .before .before .before .before .if1 .left)) _ _ (c .before .before .before .a .given .1) (c .before .if2 .left)))
 
 -- src/batch.rt:91:1
 returns-4 : tie.Need-returns-4
 unfolding putAll
-returns-4 c = ap (leaves _) (read-refused _ _ _ _ _ _ _ (c .before .before .ask-about .ensures) (sym (c .before .before .before .before .before .is-read .ensures) ∙ not-false _ (c .before .before .before .before .if1 .left)) (c .enum-told .given .1))
+returns-4 c = ap (leaves _) (read-refused _ _ _ _ _ _ _ (c .before .before .ask-about-from .ensures) (sym (c .before .before .before .before .before .is-read .ensures) ∙ not-false _ (c .before .before .before .before .if1 .left)) (c .enum-told .given .1))
 
 pub read-at-spec : {M : Type 1} → statement M
 read-at-spec =
@@ -68,7 +68,7 @@ read-at-spec =
     (tie.spec
     is-read-requires
     returns
-    ask-about-requires
+    ask-about-from-requires
     enum-known-a
     fault-requires
     same-length

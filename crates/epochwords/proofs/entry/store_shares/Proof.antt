@@ -17,63 +17,63 @@ Inv-loop epoch₀ n p shares at i₀ epoch i = (i ≤ n) × (length epoch ≡ le
 abbrev μ-loop : tie.MeasureT-loop
 μ-loop epoch₀ n p shares at i₀ epoch i = n - i
 
--- src/entry.rt:62:24
+-- src/entry.rt:70:32
 add-at : tie.Need-add-at Inv-loop μ-loop
 add-at c = omega (arith, within-record (c .args .n) (c .args .p) 7 (c .pre .1) (omega arith), epoch-small (c .args .n) (c .pre .0 .few), c .pre .0 .few, c .pre .0 .long)
 
--- src/entry.rt:62:19
+-- src/entry.rt:70:27
 mul-at : tie.Need-mul-at Inv-loop μ-loop
 mul-at c = omega (arith, within-record (c .args .n) (c .args .p) 7 (c .pre .1) (omega arith), epoch-small (c .args .n) (c .pre .0 .few), c .pre .0 .few, c .pre .0 .long)
 
--- src/entry.rt:62:14
+-- src/entry.rt:70:14
 add-at-2 : tie.Need-add-at-2 Inv-loop μ-loop
 add-at-2 c = omega (arith, within-record (c .args .n) (c .args .p) 7 (c .pre .1) (omega arith), epoch-small (c .args .n) (c .pre .0 .few), c .pre .0 .few, c .pre .0 .long)
 
--- src/entry.rt:64:5
+-- src/entry.rt:72:5
 loop-holds : tie.Need-loop-holds Inv-loop μ-loop
 loop-holds c = (omega arith, refl, rw (all-left (c .args .n)))
 
--- src/entry.rt:65:31
+-- src/entry.rt:73:42
 mul-epoch : tie.Need-mul-epoch Inv-loop μ-loop
 mul-epoch c = omega (arith, within-record (c .before .before .args .n) (c .before .before .args .p) 7 (c .before .before .pre .1) (omega arith), epoch-small (c .before .before .args .n) (c .before .before .pre .0 .few), c .before .before .pre .0 .few, c .before .before .pre .0 .long)
 
--- src/entry.rt:65:31
+-- src/entry.rt:73:42
 array-read-epoch : tie.Need-array-read-epoch Inv-loop μ-loop
 array-read-epoch c = omega (arith, within-record (c .before .before .args .n) (c .before .before .args .p) 7 (c .before .before .pre .1) (omega arith), epoch-small (c .before .before .args .n) (c .before .before .pre .0 .few), c .before .before .pre .0 .few, c .before .before .pre .0 .long)
 
--- src/entry.rt:65:21
+-- src/entry.rt:73:21
 add-epoch : tie.Need-add-epoch Inv-loop μ-loop
 add-epoch c = omega (arith, within-record (c .before .before .args .n) (c .before .before .args .p) 7 (c .before .before .pre .1) (omega arith), epoch-small (c .before .before .args .n) (c .before .before .pre .0 .few), c .before .before .pre .0 .few, c .before .before .pre .0 .long)
 
--- src/entry.rt:65:15
+-- src/entry.rt:73:15
 add-epoch-2 : tie.Need-add-epoch-2 Inv-loop μ-loop
 add-epoch-2 c = omega (arith, within-record (c .before .before .args .n) (c .before .before .args .p) 7 (c .before .before .pre .1) (omega arith), epoch-small (c .before .before .args .n) (c .before .before .pre .0 .few), c .before .before .pre .0 .few, c .before .before .pre .0 .long)
 
--- src/entry.rt:65:9
+-- src/entry.rt:73:9
 mul-epoch-2 : tie.Need-mul-epoch-2 Inv-loop μ-loop
 mul-epoch-2 c = omega (arith, within-record (c .before .before .args .n) (c .before .before .args .p) 7 (c .before .before .pre .1) (omega arith), epoch-small (c .before .before .args .n) (c .before .before .pre .0 .few), c .before .before .pre .0 .few, c .before .before .pre .0 .long)
 
--- src/entry.rt:65:9
+-- src/entry.rt:73:9
 slice-write-epoch : tie.Need-slice-write-epoch Inv-loop μ-loop
 slice-write-epoch c = omega (arith, within-record (c .before .before .args .n) (c .before .before .args .p) (8 + c .before .loop .i) (c .before .before .pre .1) (omega arith), c .before .before .pre .0 .long, c .before .loop .inv .1)
 
--- src/entry.rt:66:9
+-- src/entry.rt:74:9
 add-i : tie.Need-add-i Inv-loop μ-loop
 add-i c = omega (arith, within-record (c .before .before .args .n) (c .before .before .args .p) 7 (c .before .before .pre .1) (omega arith), epoch-small (c .before .before .args .n) (c .before .before .pre .0 .few), c .before .before .pre .0 .few, c .before .before .pre .0 .long)
 
--- src/entry.rt:64:5
+-- src/entry.rt:72:5
 loop-less : tie.Need-loop-less Inv-loop μ-loop
 loop-less c = omega (arith, within-record (c .before .before .args .n) (c .before .before .args .p) 7 (c .before .before .pre .1) (omega arith), epoch-small (c .before .before .args .n) (c .before .before .pre .0 .few), c .before .before .pre .0 .few, c .before .before .pre .0 .long)
 
--- src/entry.rt:64:5
+-- src/entry.rt:72:5
 loop-again : tie.Need-loop-again Inv-loop μ-loop
 loop-again c = (omega arith, simp length-set (c .before .loop .inv .1), sym (store-turn (c .before .before .args .n) (c .before .before .args .p) (c .before .loop .i) _ (c .before .loop .epoch) (c .loop-test .taken)) ∙ c .before .loop .inv .2)
 
--- src/entry.rt:58:1
+-- src/entry.rt:66:1
 same-length : tie.Need-same-length Inv-loop μ-loop
 same-length c = c .before .loop .inv .1
 
--- src/entry.rt:58:1
+-- src/entry.rt:66:1
 returns : tie.Need-returns Inv-loop μ-loop
 returns c = sym (store-done (c .before .before .args .n) (c .before .before .args .p) (c .before .loop .i) _ (c .before .loop .epoch) (c .loop-test .left)) ∙ c .before .loop .inv .2
 

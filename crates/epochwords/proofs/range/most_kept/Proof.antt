@@ -6,20 +6,20 @@ use Rattle.epochwords.proofs.range.most_kept.Tie as tie
 use Rattle.epochwords.proofs.range.most_kept.Reads as reads
 use Rattle.epochwords.proofs.range.most_kept.Lts as lts
 
--- src/range.rt:69:48
+-- src/range.rt:59:48
 enum-told : tie.Need-enum-told
 enum-told c = search needs
 
--- src/range.rt:70:45
+-- src/range.rt:60:45
 enum-told-2 : tie.Need-enum-told-2
 enum-told-2 c = search needs
 
--- src/range.rt:65:1
+-- src/range.rt:55:1
 returns : tie.Need-returns
 unfolding mostKept
 returns c = rw (c .enum-told .given .1)
 
--- src/range.rt:65:1
+-- src/range.rt:55:1
 returns-2 : tie.Need-returns-2
 unfolding mostKept
 returns-2 c = rw (c .enum-told2 .given .1)

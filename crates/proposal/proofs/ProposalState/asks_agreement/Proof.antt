@@ -6,38 +6,38 @@ use Rattle.proposal.proofs.ProposalState.asks_agreement.Tie as tie
 use Rattle.proposal.proofs.ProposalState.asks_agreement.Reads as reads
 use Rattle.proposal.proofs.ProposalState.asks_agreement.Lts as lts
 
--- src/proposal_state.rt:85:39
+-- src/proposal_state.rt:87:39
 enum-told : tie.Need-enum-told
 enum-told c = search needs
 
--- src/proposal_state.rt:86:43
+-- src/proposal_state.rt:88:43
 enum-told-2 : tie.Need-enum-told-2
 enum-told-2 c = search needs
 
--- src/proposal_state.rt:87:40
+-- src/proposal_state.rt:89:40
 enum-told-3 : tie.Need-enum-told-3
 enum-told-3 c = search needs
 
--- src/proposal_state.rt:88:43
+-- src/proposal_state.rt:90:43
 enum-told-4 : tie.Need-enum-told-4
 enum-told-4 c = search needs
 
--- src/proposal_state.rt:81:5
+-- src/proposal_state.rt:83:5
 returns : tie.Need-returns
 unfolding asksAgreement
 returns c = search needs
 
--- src/proposal_state.rt:81:5
+-- src/proposal_state.rt:83:5
 returns-2 : tie.Need-returns-2
 unfolding asksAgreement
 returns-2 c = search needs
 
--- src/proposal_state.rt:81:5
+-- src/proposal_state.rt:83:5
 returns-3 : tie.Need-returns-3
 unfolding asksAgreement
 returns-3 c = search needs
 
--- src/proposal_state.rt:81:5
+-- src/proposal_state.rt:83:5
 returns-4 : tie.Need-returns-4
 unfolding asksAgreement
 returns-4 c = search needs

@@ -6,38 +6,38 @@ use Rattle.proposal.proofs.ProposalState.asks_broadcast.Tie as tie
 use Rattle.proposal.proofs.ProposalState.asks_broadcast.Reads as reads
 use Rattle.proposal.proofs.ProposalState.asks_broadcast.Lts as lts
 
--- src/proposal_state.rt:97:39
+-- src/proposal_state.rt:99:39
 enum-told : tie.Need-enum-told
 enum-told c = search needs
 
--- src/proposal_state.rt:98:43
+-- src/proposal_state.rt:100:43
 enum-told-2 : tie.Need-enum-told-2
 enum-told-2 c = search needs
 
--- src/proposal_state.rt:99:40
+-- src/proposal_state.rt:101:40
 enum-told-3 : tie.Need-enum-told-3
 enum-told-3 c = search needs
 
--- src/proposal_state.rt:100:43
+-- src/proposal_state.rt:102:43
 enum-told-4 : tie.Need-enum-told-4
 enum-told-4 c = search needs
 
--- src/proposal_state.rt:93:5
+-- src/proposal_state.rt:95:5
 returns : tie.Need-returns
 unfolding asksBroadcast
 returns c = search needs
 
--- src/proposal_state.rt:93:5
+-- src/proposal_state.rt:95:5
 returns-2 : tie.Need-returns-2
 unfolding asksBroadcast
 returns-2 c = search needs
 
--- src/proposal_state.rt:93:5
+-- src/proposal_state.rt:95:5
 returns-3 : tie.Need-returns-3
 unfolding asksBroadcast
 returns-3 c = search needs
 
--- src/proposal_state.rt:93:5
+-- src/proposal_state.rt:95:5
 returns-4 : tie.Need-returns-4
 unfolding asksBroadcast
 returns-4 c = search needs

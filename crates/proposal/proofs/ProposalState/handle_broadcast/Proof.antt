@@ -16,67 +16,67 @@ use Rattle.proposal.proofs.ProposalState.asks_broadcast.Reads as asks-b
 use Rattle.proposal.proofs.ProposalState.instance_answer.Reads as instance-answer-reads
 use Rattle.proposal.proofs.ProposalState.transition.Reads as transition-reads
 
--- src/proposal_state.rt:275:13
+-- src/proposal_state.rt:293:13
 asks-broadcast-requires : tie.Need-asks-broadcast-requires
 asks-broadcast-requires c κs = search needs
 
--- src/proposal_state.rt:276:13
+-- src/proposal_state.rt:294:13
 transition-requires : tie.Need-transition-requires
 transition-requires c κs = search needs
 
--- src/proposal_state.rt:276:13
+-- src/proposal_state.rt:294:13
 returns : tie.Need-returns
 returns c = ends-with _ _ (c .transition .ensures) ∙ ap (leaves _) (sym (broadcast-off _ _ _ _ _ (sym (c .before .before .asks-broadcast .ensures) ∙ not-true _ (c .before .if1 .taken))))
 
--- src/proposal_state.rt:279:13
+-- src/proposal_state.rt:297:13
 instance-answer-requires : tie.Need-instance-answer-requires
 instance-answer-requires c κs = search needs
 
--- src/proposal_state.rt:292:26
+-- src/proposal_state.rt:310:26
 enum-known-outcome : tie.Need-enum-known-outcome
 enum-known-outcome c = search needs
 
--- src/proposal_state.rt:293:17
+-- src/proposal_state.rt:311:17
 after-value-requires : tie.Need-after-value-requires
 after-value-requires c κs = (sym (c .before .before .before .before .before .before .before .before .before .before .before .before .asks-broadcast .ensures) ∙ not-false _ (c .before .before .before .before .before .before .before .before .before .before .before .if1 .left))
 
--- src/proposal_state.rt:295:46
+-- src/proposal_state.rt:313:46
 enum-told : tie.Need-enum-told
 enum-told c = search needs
 
--- src/proposal_state.rt:295:30
+-- src/proposal_state.rt:313:30
 transition-requires-2 : tie.Need-transition-requires-2
 transition-requires-2 c κs = search needs
 
--- src/proposal_state.rt:296:26
+-- src/proposal_state.rt:314:26
 enum-known-outcome-2 : tie.Need-enum-known-outcome-2
 enum-known-outcome-2 c = search needs
 
--- src/proposal_state.rt:296:37
+-- src/proposal_state.rt:314:37
 transition-requires-3 : tie.Need-transition-requires-3
 transition-requires-3 c κs = search needs
 
--- src/proposal_state.rt:262:5
+-- src/proposal_state.rt:280:5
 same-length : tie.Need-same-length
 same-length c = search needs
 
--- src/proposal_state.rt:262:5
+-- src/proposal_state.rt:280:5
 returns-2 : tie.Need-returns-2
 returns-2 c = c .before .before .after-value .ensures ∙ onward-go _ _ _ (λ out s t. afterValue (c .before .before .before .before .before .before .before .before .before .before .before .before .before .before .before .before .before .before .args .error) (c .before .before .before .before .before .before .before .before .before .before .before .before .before .before .before .before .before .before .args .proposer) s out t) (c .before .before .before .before .before .before .before .before .before .before .before .instance-answer .ensures) _ (ap toldVerdict (c .before .before .before .before .before .before .outcome .given .1)) ∙ ap (leaves _) (sym (broadcast-on _ _ _ _ _ (sym (c .before .before .before .before .before .before .before .before .before .before .before .before .before .before .before .asks-broadcast .ensures) ∙ not-false _ (c .before .before .before .before .before .before .before .before .before .before .before .before .before .before .if1 .left))))
 
--- src/proposal_state.rt:262:5
+-- src/proposal_state.rt:280:5
 same-length-2 : tie.Need-same-length-2
 same-length-2 c = search needs
 
--- src/proposal_state.rt:262:5
+-- src/proposal_state.rt:280:5
 returns-3 : tie.Need-returns-3
 returns-3 c = moves _ _ (c .transition2 .ensures) ∙ onward-refused _ _ _ _ (c .before .before .before .before .before .before .instance-answer .ensures) (ap toldVerdict (c .before .enum-told .given .1)) ∙ ap (leaves _) (sym (broadcast-on _ _ _ _ _ (sym (c .before .before .before .before .before .before .before .before .before .before .asks-broadcast .ensures) ∙ not-false _ (c .before .before .before .before .before .before .before .before .before .if1 .left))))
 
--- src/proposal_state.rt:262:5
+-- src/proposal_state.rt:280:5
 same-length-3 : tie.Need-same-length-3
 same-length-3 c = search needs
 
--- src/proposal_state.rt:262:5
+-- src/proposal_state.rt:280:5
 returns-4 : tie.Need-returns-4
 returns-4 c = moves _ _ (c .transition3 .ensures) ∙ onward-failed _ _ _ _ (c .before .before .before .before .before .before .before .instance-answer .ensures) _ (ap toldVerdict (c .before .before .outcome2 .given .1)) ∙ ap (leaves _) (sym (broadcast-on _ _ _ _ _ (sym (c .before .before .before .before .before .before .before .before .before .before .before .asks-broadcast .ensures) ∙ not-false _ (c .before .before .before .before .before .before .before .before .before .before .if1 .left))))
 

@@ -6,38 +6,38 @@ use Rattle.proposal.proofs.ProposalState.received.Tie as tie
 use Rattle.proposal.proofs.ProposalState.received.Reads as reads
 use Rattle.proposal.proofs.ProposalState.received.Lts as lts
 
--- src/proposal_state.rt:49:39
+-- src/proposal_state.rt:51:39
 enum-told : tie.Need-enum-told
 enum-told c = search needs
 
--- src/proposal_state.rt:50:43
+-- src/proposal_state.rt:52:43
 enum-told-2 : tie.Need-enum-told-2
 enum-told-2 c = search needs
 
--- src/proposal_state.rt:51:40
+-- src/proposal_state.rt:53:40
 enum-told-3 : tie.Need-enum-told-3
 enum-told-3 c = search needs
 
--- src/proposal_state.rt:52:37
+-- src/proposal_state.rt:54:37
 enum-known-self : tie.Need-enum-known-self
 enum-known-self c = search needs
 
--- src/proposal_state.rt:45:5
+-- src/proposal_state.rt:47:5
 returns : tie.Need-returns
 unfolding received
 returns c = search needs
 
--- src/proposal_state.rt:45:5
+-- src/proposal_state.rt:47:5
 returns-2 : tie.Need-returns-2
 unfolding received
 returns-2 c = search needs
 
--- src/proposal_state.rt:45:5
+-- src/proposal_state.rt:47:5
 returns-3 : tie.Need-returns-3
 unfolding received
 returns-3 c = search needs
 
--- src/proposal_state.rt:45:5
+-- src/proposal_state.rt:47:5
 returns-4 : tie.Need-returns-4
 unfolding received
 returns-4 c = search needs

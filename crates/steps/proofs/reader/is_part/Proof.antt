@@ -6,7 +6,7 @@ use Rattle.steps.proofs.reader.is_part.Tie as tie
 use Rattle.steps.proofs.reader.is_part.Reads as reads
 use Rattle.steps.proofs.reader.is_part.Lts as lts
 
--- src/reader.rt:110:1
+-- src/reader.rt:192:1
 returns : tie.Need-returns
 unfolding isPart
 returns c = refl

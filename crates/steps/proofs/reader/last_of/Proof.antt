@@ -6,20 +6,20 @@ use Rattle.steps.proofs.reader.last_of.Tie as tie
 use Rattle.steps.proofs.reader.last_of.Reads as reads
 use Rattle.steps.proofs.reader.last_of.Lts as lts
 
--- src/reader.rt:153:28
+-- src/reader.rt:255:28
 enum-told : tie.Need-enum-told
 enum-told c = search needs
 
--- src/reader.rt:154:29
+-- src/reader.rt:256:29
 enum-told-2 : tie.Need-enum-told-2
 enum-told-2 c = search needs
 
--- src/reader.rt:149:1
+-- src/reader.rt:251:1
 returns : tie.Need-returns
 unfolding lastOf
 returns c = rw (c .enum-told .given .1)
 
--- src/reader.rt:149:1
+-- src/reader.rt:251:1
 returns-2 : tie.Need-returns-2
 unfolding lastOf
 returns-2 c = rw (c .enum-told2 .given .1)

@@ -9,15 +9,15 @@ use Rattle.steps.proofs.reader.last_output.Lts as lts
 use Rattle.steps.proofs.reader.last_of.Reads as last-of-reads
 use Rattle.steps.proofs.reader.output_of.Reads as output-of-reads
 
--- src/reader.rt:161:9
+-- src/reader.rt:263:9
 output-of-requires : tie.Need-output-of-requires
 output-of-requires c κs = search needs
 
--- src/reader.rt:162:5
+-- src/reader.rt:264:5
 last-of-requires : tie.Need-last-of-requires
 last-of-requires c κs = search needs
 
--- src/reader.rt:158:1
+-- src/reader.rt:260:1
 returns : tie.Need-returns
 unfolding lastOutput
 returns c = c .last-of .ensures ∙ ap (lastOf _) (c .before .output-of .ensures)

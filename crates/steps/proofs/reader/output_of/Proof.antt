@@ -6,12 +6,12 @@ use Rattle.steps.proofs.reader.output_of.Tie as tie
 use Rattle.steps.proofs.reader.output_of.Reads as reads
 use Rattle.steps.proofs.reader.output_of.Lts as lts
 
--- src/reader.rt:143:9
+-- src/reader.rt:245:9
 returns : tie.Need-returns
 unfolding outputOf
 returns c = rw (eq-eqb _ _ (c .if1 .taken))
 
--- src/reader.rt:139:1
+-- src/reader.rt:241:1
 returns-2 : tie.Need-returns-2
 unfolding outputOf
 returns-2 c = rw (ne-eqb _ _ (c .if1 .left))

@@ -11,39 +11,39 @@ use Rattle.steps.proofs.reader.message_kind.Reads as message-kind-reads
 use Rattle.steps.proofs.step.Step.fault.Reads as fault-reads
 use Rattle.steps.proofs.step.Step.message.Reads as message-reads
 
--- src/reader.rt:161:36
+-- src/reader.rt:232:36
 message-kind-requires : tie.Need-message-kind-requires
 message-kind-requires c κs = search needs
 
--- src/reader.rt:161:9
+-- src/reader.rt:232:9
 message-requires : tie.Need-message-requires
 message-requires c κs = search needs
 
--- src/reader.rt:161:9
+-- src/reader.rt:232:9
 same-length : tie.Need-same-length
 same-length c = search needs
 
--- src/reader.rt:161:9
+-- src/reader.rt:232:9
 returns : tie.Need-returns
 returns c = (rw (c .before .before .before .message-kind .ensures) at (c .before .before .message .ensures)) ∙ message-part _ _ _ _ _ _ (c .before .before .before .before .before .if1 .taken)
 
--- src/reader.rt:164:34
+-- src/reader.rt:235:34
 fault-kind-requires : tie.Need-fault-kind-requires
 fault-kind-requires c κs = search needs
 
--- src/reader.rt:164:9
+-- src/reader.rt:235:9
 fault-requires : tie.Need-fault-requires
 fault-requires c κs = search needs
 
--- src/reader.rt:164:9
+-- src/reader.rt:235:9
 same-length-2 : tie.Need-same-length-2
 same-length-2 c = search needs
 
--- src/reader.rt:164:9
+-- src/reader.rt:235:9
 returns-2 : tie.Need-returns-2
 returns-2 c = (rw (c .before .before .before .fault-kind .ensures) at (c .before .before .fault .ensures)) ∙ fault-part _ _ _ _ _ _ (c .before .before .before .before .before .before .if1 .left) (c .before .before .before .before .before .if2 .taken)
 
--- src/reader.rt:149:1
+-- src/reader.rt:219:1
 returns-3 : tie.Need-returns-3
 returns-3 c = other-part _ _ _ _ _ _ (c .before .if1 .left) (c .if2 .left)
 

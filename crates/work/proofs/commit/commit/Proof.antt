@@ -12,9 +12,9 @@ use Rattle.work.proofs.commit.commit.Statement.{statement}
 use Rattle.work.proofs.commit.commit.Tie as tie
 use Rattle.work.proofs.commit.commit.Reads as reads
 use Rattle.work.proofs.commit.commit.Lts as lts
+use Rattle.state.proofs.words.store.Reads as store-reads
 use Rattle.work.proofs.commit.note_input.Reads as note-input-reads
 use Rattle.work.proofs.commit.skip_to_epoch.Reads as skip-to-epoch-reads
-use Rattle.state.proofs.words.store.Reads as store-reads
 
 -- src/commit.rt:68:5
 note-input-requires : tie.Need-note-input-requires

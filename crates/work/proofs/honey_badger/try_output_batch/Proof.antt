@@ -14,50 +14,50 @@ use Rattle.work.proofs.honey_badger.try_output_batch.Tie as tie
 use Rattle.work.proofs.honey_badger.try_output_batch.Reads as reads
 use Rattle.work.proofs.honey_badger.try_output_batch.Lts as lts
 use Rattle.epochwords.proofs.batch.is_ready.Reads as is-ready-reads
-use Rattle.epochwords.proofs.batch.output_batch.Reads as output-batch-reads
+use Rattle.epochwords.proofs.batch.output_batch_from.Reads as output-batch-from-reads
 
--- src/honey_badger.rt:90:16
+-- src/honey_badger.rt:92:16
 add-size : tie.Need-add-size
 add-size c = search needs
 
--- src/honey_badger.rt:91:9
+-- src/honey_badger.rt:93:9
 is-ready-requires : tie.Need-is-ready-requires
 is-ready-requires c κs = record { few = c .before .before .before .pre .few; fields = omega arith; long = omega (arith, c .before .before .before .pre .long) }
 
--- src/honey_badger.rt:92:9
+-- src/honey_badger.rt:94:9
 returns : tie.Need-returns
 unfolding tryOutputBatch putAll
 returns c = rw (sym (c .before .is-ready .ensures) ∙ not-true _ (c .if1 .taken))
 
--- src/honey_badger.rt:97:9
-output-batch-requires : tie.Need-output-batch-requires
-output-batch-requires c κs = record { few = c .before .before .before .before .before .before .before .pre .few; fields = omega arith; long = omega (arith, c .before .before .before .before .before .before .before .pre .long) }
+-- src/honey_badger.rt:99:9
+output-batch-from-requires : tie.Need-output-batch-from-requires
+output-batch-from-requires c κs = record { few = c .before .before .before .before .before .before .before .pre .few; fields = omega arith; long = omega (arith, c .before .before .before .before .before .before .before .pre .long) }
 
--- src/honey_badger.rt:102:22
+-- src/honey_badger.rt:104:22
 enum-told : tie.Need-enum-told
 enum-told c = search needs
 
--- src/honey_badger.rt:106:22
+-- src/honey_badger.rt:108:22
 enum-told-2 : tie.Need-enum-told-2
 enum-told-2 c = search needs
 
--- src/honey_badger.rt:77:1
+-- src/honey_badger.rt:79:1
 same-length : tie.Need-same-length
 same-length c = search needs
 
--- src/honey_badger.rt:77:1
+-- src/honey_badger.rt:79:1
 returns-2 : tie.Need-returns-2
 unfolding tryOutputBatch putAll
-returns-2 c = rw (sym (c .before .before .before .before .before .before .before .before .before .is-ready .ensures) ∙ not-false _ (c .before .before .before .before .before .before .before .before .if1 .left)) (onward-go _ _ _ (λ _ w q. ends (going true) w q) (c .before .before .before .before .before .output-batch .ensures) tt (ap handedVerdict (c .enum-told .given .1)))
+returns-2 c = rw (sym (c .before .before .before .before .before .before .before .before .before .is-ready .ensures) ∙ not-false _ (c .before .before .before .before .before .before .before .before .if1 .left)) (onward-go _ _ _ (λ _ w q. ends (going true) w q) (c .before .before .before .before .before .output-batch-from .ensures) tt (ap handedVerdict (c .enum-told .given .1)))
 
--- src/honey_badger.rt:77:1
+-- src/honey_badger.rt:79:1
 same-length-2 : tie.Need-same-length-2
 same-length-2 c = search needs
 
--- src/honey_badger.rt:77:1
+-- src/honey_badger.rt:79:1
 returns-3 : tie.Need-returns-3
 unfolding tryOutputBatch
-returns-3 c = rw (sym (c .before .before .before .before .before .before .before .before .before .is-ready .ensures) ∙ not-false _ (c .before .before .before .before .before .before .before .before .if1 .left)) (onward-refused _ _ _ _ (c .before .before .before .before .before .output-batch .ensures) (ap handedVerdict (c .enum-told2 .given .1)))
+returns-3 c = rw (sym (c .before .before .before .before .before .before .before .before .before .is-ready .ensures) ∙ not-false _ (c .before .before .before .before .before .before .before .before .if1 .left)) (onward-refused _ _ _ _ (c .before .before .before .before .before .output-batch-from .ensures) (ap handedVerdict (c .enum-told2 .given .1)))
 
 pub try-output-batch-spec : {M : Type 1} → statement M
 try-output-batch-spec =
@@ -66,7 +66,7 @@ try-output-batch-spec =
     add-size
     is-ready-requires
     returns
-    output-batch-requires
+    output-batch-from-requires
     enum-told
     enum-told-2
     same-length

@@ -6,12 +6,12 @@ use Rattle.steps.proofs.step.Chain.first.Tie as tie
 use Rattle.steps.proofs.step.Chain.first.Reads as reads
 use Rattle.steps.proofs.step.Chain.first.Lts as lts
 
--- src/step.rt:34:5
+-- src/step.rt:32:5
 returns : tie.Need-returns
 unfolding firstOf
 returns c = rw (eq-eqb _ _ (c .if1 .taken))
 
--- src/step.rt:34:5
+-- src/step.rt:32:5
 returns-2 : tie.Need-returns-2
 unfolding firstOf
 returns-2 c = rw (ne-eqb _ _ (c .if1 .left))

@@ -7,7 +7,7 @@ use Rattle.steps.proofs.step.Step.fault.Reads as reads
 use Rattle.steps.proofs.step.Step.fault.Lts as lts
 use Rattle.steps.proofs.step.Chain.put.Reads as put-reads
 
--- src/step.rt:127:13
+-- src/step.rt:128:13
 put-requires : tie.Need-put-requires
 put-requires c κs = search needs
 

@@ -11,11 +11,11 @@ use Rattle.steps.proofs.step.Chain.put.Reads as put-reads
 put-requires : tie.Need-put-requires
 put-requires c κs = search needs
 
--- src/step.rt:107:5
+-- src/step.rt:106:5
 same-length : tie.Need-same-length
 same-length c = search needs
 
--- src/step.rt:107:5
+-- src/step.rt:106:5
 returns : tie.Need-returns
 returns c = message-put _ _ _ _ _ _ _ (c .before .before .put .ensures)
 
