@@ -2,12 +2,12 @@
 use Prim.Native.Nat.{ℕ, _<_, _≤_}
 use mathlib.Core.Path.{_≡_, refl, sym, ap, _∙_}
 use mathlib.Core.List.{List, [], _∷_}
-use mathlib.Core.Bool.{Bool, true, false, cond, _&&_}
+use mathlib.Core.Bool.{Bool, true, false, cond, not, _&&_, _||_, false≢true}
 use mathlib.Core.Option.{Option, none, some}
 use native.Mathlib.Omega.{arith}
 use lib.ListN.{set}
-use lib.Dec.{eqb}
-use borrow.Author.Tests.{ltb-true, le-leb, lt-leb, eq-eqb, ne-eqb}
+use lib.Dec.{eqb, ltb}
+use borrow.Author.Tests.{ltb-true, ltb-false, eqb-true, eqb-false, not-true, le-leb, lt-leb, eq-eqb, ne-eqb}
 use Rattle.network.specs.declared.network_info.NetworkInfo.{NetworkInfo}
 use Rattle.steps.specs.declared.reader.Answer.{Answer}
 use Rattle.steps.specs.declared.reader.Answer.the-variants.{Got, Refused as NoAnswer}
@@ -30,6 +30,17 @@ use Rattle.decryption.proofs.ShareCode.{unset}
 pub cond-cong : {A : Type 0} (x : Bool) {a b c d : A} → a ≡ b → c ≡ d → cond x a c ≡ cond x b d
 cond-cong true p q = p
 cond-cong false p q = q
+
+-- the instance, with a mark where its shares are combined
+abbrev pub marked : ThresholdDecrypt → Bool → ThresholdDecrypt
+marked td b = record { ciphertext = td .ciphertext; shares = td .shares; «had_input» = td .«had_input»; terminated = td .terminated || b }
+
+or-false : (x : Bool) → x || false ≡ x
+or-false true = refl
+or-false false = refl
+
+unmarked : (td : ThresholdDecrypt) → marked td false ≡ td
+unmarked td = ap (λ x. record { ciphertext = td .ciphertext; shares = td .shares; «had_input» = td .«had_input»; terminated = x }) (or-false (td .terminated))
 
 -- checking shares leaves what is not a share
 pub remove-ended : (x : Bool) (td : ThresholdDecrypt) (p : Tape) → td .terminated ≡ x → removeInvalidShares td p .state .terminated ≡ x
@@ -80,6 +91,29 @@ module _ (net : NetworkInfo) (proposer : ℕ) where
   unfolding tryOutput tryWith
   try-none td p e h z = rw (e, lt-leb _ _ h, eq-eqb _ _ z)
 
+  -- the code's one test for the three, where there are n shares
+  abbrev pub combinesNow : ThresholdDecrypt → ℕ → Bool
+  combinesNow td n = (not (td .terminated) && ltb (net .«num_faulty») n) && not (eqb (td .ciphertext) 0)
+
+  -- what it says where it holds, m being the instance with its mark
+  abbrev pub Ready : ThresholdDecrypt → ThresholdDecrypt → Type 0
+  Ready td m = (td .terminated ≡ false) × (net .«num_faulty» < countShares (td .shares)) × (td .ciphertext ≡ 0 → ⊥) × (m ≡ withEnd td)
+
+  pub ready : (td : ThresholdDecrypt) (n : ℕ) → n ≡ countShares (td .shares) → combinesNow td n ≡ true → Ready td (marked td (combinesNow td n))
+  ready td n k e =
+      let a = and-true _ _ e in
+      let b = and-true _ _ (a .0) in
+      (not-true _ (b .0), rw (← k) (ltb-true _ _ (b .1)), eqb-false _ _ (not-true _ (a .1)), rw (e, not-true (td .terminated) (b .0)) refl)
+
+  pub try-waits : (td : ThresholdDecrypt) (p : Tape) (n : ℕ) → n ≡ countShares (td .shares) → combinesNow td n ≡ false → tryOutput net proposer td p ≡ ends (going none) (marked td (combinesNow td n)) p
+  try-waits td p n k e = rw (e, unmarked td) (go _ _ _ refl refl refl)
+    where
+      go : (x y z : Bool) → td .terminated ≡ x → ltb (net .«num_faulty») n ≡ y → eqb (td .ciphertext) 0 ≡ z → tryOutput net proposer td p ≡ ends (going none) td p
+      go true y z u v w = try-ended td p u
+      go false false z u v w = try-few td p u (rw (← k) (ltb-false _ _ v))
+      go false true true u v w = try-none td p u (rw (← k) (ltb-true _ _ v)) (eqb-true _ _ w)
+      go false true false u v w = absurd (false≢true (sym e ∙ rw (u, v, w) refl))
+
   -- a start while combining combines nothing
   try-quiet : (k : Does) (td : ThresholdDecrypt) (p : Tape) → td .terminated ≡ true → ends (going none) td p ≡ tryWith net k td p
   unfolding tryWith
@@ -101,9 +135,9 @@ module _ (net : NetworkInfo) (proposer : ℕ) where
   try-onward td p e h z = rw (e, lt-leb _ _ h, ne-eqb _ _ z) (ap (λ r. onward r (λ _ td q. combine td q)) (start-ended td p))
 
   -- once it has started, the shares are combined at once
-  pub try-started : (td : ThresholdDecrypt) (p : Tape) → td .terminated ≡ false → net .«num_faulty» < countShares (td .shares) → (td .ciphertext ≡ 0 → ⊥) → td .«had_input» ≡ true → tryOutput net proposer td p ≡ combine (withEnd td) p
+  pub try-started : (td m : ThresholdDecrypt) (p : Tape) → Ready td m → td .«had_input» ≡ true → tryOutput net proposer td p ≡ combine m p
   unfolding onward onwardAs
-  try-started td p e h z s = rw (try-onward td p e h z, start-redundant (withEnd td) p s)
+  try-started td m p r s = rw (r .3, try-onward td p (r .0) (r .1) (r .2), start-redundant (withEnd td) p s)
 
   own-quiet : (td : ThresholdDecrypt) (p : Tape) → Afterwards (ownShare net proposer (ends (going none)) td p) (λ o s q. o ≡ none)
   unfolding ownShare
@@ -133,16 +167,19 @@ module _ (net : NetworkInfo) (proposer : ℕ) where
       pub start-goes : d .verdict ≡ going tt → leaves (d .out) (ownShare net proposer (tryOutput net proposer) (withInput (d .state)) (d .tape)) ≡ leaves o (startDecryption net proposer td p)
       start-goes n = rw (start-onward td p e z) (onward-go d o _ (λ _ td q. ownShare net proposer (tryOutput net proposer) (withInput td) q) r tt n)
 
-    module _ (d : Left ThresholdDecrypt (Option ℕ)) (e : td .terminated ≡ false) (h : net .«num_faulty» < countShares (td .shares)) (z : td .ciphertext ≡ 0 → ⊥) (r : d ≡ leaves o (startDecryption net proposer (withEnd td) p)) where
+    module _ (d : Left ThresholdDecrypt (Option ℕ)) (m : ThresholdDecrypt) (y : Ready td m) (r : d ≡ leaves o (startDecryption net proposer m p)) where
+      ended : d ≡ leaves o (startDecryption net proposer (withEnd td) p)
+      ended = r ∙ ap (λ x. leaves o (startDecryption net proposer x p)) (y .3)
+
       pub try-stops : (d .verdict ≡ going none → ⊥) → d ≡ leaves o (tryOutput net proposer td p)
-      try-stops n = rw (try-onward td p e h z) (onward-stop d o _ _ r stops)
+      try-stops n = rw (try-onward td p (y .0) (y .1) (y .2)) (onward-stop d o _ _ ended stops)
         where
           stops : (a : Option ℕ) → d .verdict ≡ going a → ⊥
           stops none m = n m
-          stops (some b) m = start-quiet td p b (sym (ap (λ x. x .verdict) r) ∙ m)
+          stops (some b) m = start-quiet td p b (sym (ap (λ x. x .verdict) ended) ∙ m)
 
       pub try-goes : d .verdict ≡ going none → leaves (d .out) (combine (d .state) (d .tape)) ≡ leaves o (tryOutput net proposer td p)
-      try-goes n = rw (try-onward td p e h z) (onward-go d o _ (λ _ td q. combine td q) r none n)
+      try-goes n = rw (try-onward td p (y .0) (y .1) (y .2)) (onward-go d o _ (λ _ td q. combine td q) ended none n)
 
   -- the own share, case by case
   module _ (try : Does) (td : ThresholdDecrypt) (p : Tape) where
@@ -182,5 +219,5 @@ started-falls td p o d t u e r =
     let m : d .state .terminated ≡ td .terminated = ap (λ x. x .state .terminated) r ∙ remove-ended _ td p refl in
     rw (← u, m, e) (omega arith)
 
-pub ended-falls : (td : ThresholdDecrypt) (t : ℕ) → unset td ≡ t → td .terminated ≡ false → unset (withEnd td) < t
-ended-falls td t u e = rw (← u, e) (omega arith)
+pub ended-falls : (td m : ThresholdDecrypt) (t : ℕ) → unset td ≡ t → td .terminated ≡ false → m ≡ withEnd td → unset m < t
+ended-falls td m t u e w = rw (w, ← u, e) (omega arith)

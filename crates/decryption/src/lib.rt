@@ -328,18 +328,13 @@ impl ThresholdDecrypt {
         ensures { λ r. ⌜ left r (tapeAt (now (answers .entry)) (now (place .exit))) (now (words .exit))
             ≡ leaves (out step (now (words .entry))) (tryOutput net proposer self (tapeAt (now (answers .entry)) (now (place .entry)))) ⌝ }
     {
-        if self.terminated {
-            return self.handled(Outcome::Nothing, step);
-        }
-        let shares = self.shares;
-        if count(shares) <= net.num_faulty {
-            return self.handled(Outcome::Nothing, step);
-        }
-        if self.ciphertext == 0 {
-            return self.handled(Outcome::Nothing, step);
-        }
         let mut td = self;
-        td.terminated = true;
+        let shares = td.shares;
+        let combines = !td.terminated & (net.num_faulty < count(shares)) & (td.ciphertext != 0);
+        td.terminated = td.terminated | combines;
+        if !combines {
+            return td.handled(Outcome::Nothing, step);
+        }
         // Starting again would change nothing.
         if td.had_input {
             let combined = combine(answers, place);

@@ -6,7 +6,7 @@ use mathlib.Core.Path.{sym, ap, _∙_}
 use Rattle.steps.specs.Runs.{leaves}
 use Rattle.decryption.specs.Outcomes.{checkedVerdict, verdict}
 use Rattle.decryption.proofs.ShareCode.{not-done, not-nothing, unset, hands, hands-as}
-use Rattle.decryption.proofs.CycleCode.{start-redundant, start-none, start-refused, start-goes, own-below, own-observer, own-refused, own-sends, started-falls, ended-falls, try-ended, try-few, try-none, try-started, try-stops, try-goes}
+use Rattle.decryption.proofs.CycleCode.{start-redundant, start-none, start-refused, start-goes, own-below, own-observer, own-refused, own-sends, started-falls, ended-falls, ready, try-waits, try-started, try-stops, try-goes}
 use Prim.Native.Nat.{ℕ, _<_}
 use borrow.Fn.Kinds.{In}
 use borrow.Fn.PlainCycle.{Measures, is, falls, and}
@@ -169,79 +169,63 @@ start-decryption-at-returns-6 t c = hands (c .handled4 .ensures) ∙ ap (leaves 
 
 -- what each call in try-output asks and tells, below the measure t
 abbrev try-output-claims : ℕ → try-output-lts.Claims
-try-output-claims t = (handled-reads.Asked, handled-reads.Learnt, count-reads.Asked, count-reads.Learnt, combine-reads.Asked, combine-reads.Learnt, start-decryption-at-below t, start-decryption-at.Post)
+try-output-claims t = (count-reads.Asked, count-reads.Learnt, handled-reads.Asked, handled-reads.Learnt, combine-reads.Asked, combine-reads.Learnt, start-decryption-at-below t, start-decryption-at.Post)
 
--- src/lib.rt:332:13
-try-output-handled-requires : (t : ℕ) → try-output-lts.Need-handled-requires (try-output-claims t) (try-output-at t) try-output.Post
-try-output-handled-requires t c κs = search needs
-
--- src/lib.rt:332:13
-try-output-returns : (t : ℕ) → try-output-lts.Need-returns (try-output-claims t) (try-output-at t) try-output.Post
-try-output-returns t c = hands (c .handled .ensures) ∙ ap (leaves _) (sym (try-ended _ _ _ _ (c .before .if1 .taken)))
-
--- src/lib.rt:335:12
+-- src/lib.rt:333:59
 try-output-count-requires : (t : ℕ) → try-output-lts.Need-count-requires (try-output-claims t) (try-output-at t) try-output.Post
 try-output-count-requires t c κs = search needs
 
 -- src/lib.rt:336:13
-try-output-handled-requires-2 : (t : ℕ) → try-output-lts.Need-handled-requires-2 (try-output-claims t) (try-output-at t) try-output.Post
-try-output-handled-requires-2 t c κs = search needs
+try-output-handled-requires : (t : ℕ) → try-output-lts.Need-handled-requires (try-output-claims t) (try-output-at t) try-output.Post
+try-output-handled-requires t c κs = search needs
 
 -- src/lib.rt:336:13
-try-output-returns-2 : (t : ℕ) → try-output-lts.Need-returns-2 (try-output-claims t) (try-output-at t) try-output.Post
-try-output-returns-2 t c = hands (c .handled2 .ensures) ∙ ap (leaves _) (sym (try-few _ _ _ _ (c .before .before .before .before .before .if1 .left) (rw (← c .before .before .before .count .ensures) (c .before .if2 .taken))))
+try-output-returns : (t : ℕ) → try-output-lts.Need-returns (try-output-claims t) (try-output-at t) try-output.Post
+try-output-returns t c = hands (c .handled .ensures) ∙ ap (leaves _) (sym (try-waits _ _ _ _ _ (c .before .before .before .before .before .count .ensures) (not-true _ (c .before .if1 .taken))))
 
--- src/lib.rt:339:13
-try-output-handled-requires-3 : (t : ℕ) → try-output-lts.Need-handled-requires-3 (try-output-claims t) (try-output-at t) try-output.Post
-try-output-handled-requires-3 t c κs = search needs
-
--- src/lib.rt:339:13
-try-output-returns-3 : (t : ℕ) → try-output-lts.Need-returns-3 (try-output-claims t) (try-output-at t) try-output.Post
-try-output-returns-3 t c = hands (c .handled3 .ensures) ∙ ap (leaves _) (sym (try-none _ _ _ _ (c .before .before .before .before .before .before .before .if1 .left) (rw (← c .before .before .before .before .before .count .ensures) (c .before .before .before .if2 .left)) (c .before .if3 .taken)))
-
--- src/lib.rt:345:17
+-- src/lib.rt:340:17
 try-output-combine-requires : (t : ℕ) → try-output-lts.Need-combine-requires (try-output-claims t) (try-output-at t) try-output.Post
 try-output-combine-requires t c κs = search needs
 
--- src/lib.rt:346:13
-try-output-handled-requires-4 : (t : ℕ) → try-output-lts.Need-handled-requires-4 (try-output-claims t) (try-output-at t) try-output.Post
-try-output-handled-requires-4 t c κs = search needs
+-- src/lib.rt:341:13
+try-output-handled-requires-2 : (t : ℕ) → try-output-lts.Need-handled-requires-2 (try-output-claims t) (try-output-at t) try-output.Post
+try-output-handled-requires-2 t c κs = search needs
 
--- src/lib.rt:346:13
-try-output-returns-4 : (t : ℕ) → try-output-lts.Need-returns-4 (try-output-claims t) (try-output-at t) try-output.Post
-try-output-returns-4 t c = hands-as (c .handled4 .ensures) ∙ c .before .combine .ensures _ _ _ ∙ ap (leaves _) (sym (try-started _ _ _ _ (c .before .before .before .before .before .before .before .before .before .before .if1 .left) (rw (← c .before .before .before .before .before .before .before .before .count .ensures) (c .before .before .before .before .before .before .if2 .left)) (c .before .before .before .before .if3 .left) (c .before .before .before .if4 .taken)))
+-- src/lib.rt:341:13
+try-output-returns-2 : (t : ℕ) → try-output-lts.Need-returns-2 (try-output-claims t) (try-output-at t) try-output.Post
+try-output-returns-2 t c = hands-as (c .handled2 .ensures) ∙ c .before .combine .ensures _ _ _ ∙ ap (leaves _) (sym (try-started _ _ _ _ _ (ready (c .before .before .before .before .before .before .before .before .before .before .before .before .before .args .net) (c .before .before .before .before .before .before .before .before .before .before .before .before .before .args .proposer) (c .before .before .before .before .before .before .before .before .before .before .before .before .before .args .self) _ (c .before .before .before .before .before .before .before .before .count .ensures) (not-false _ (c .before .before .before .before .if1 .left))) (c .before .before .before .if2 .taken)))
 
--- src/lib.rt:348:13
+-- src/lib.rt:343:13
 try-output-start-decryption-at-requires :
     (t : ℕ) → try-output-lts.Need-start-decryption-at-requires (try-output-claims t) (try-output-at t) try-output.Post
-try-output-start-decryption-at-requires t c κs = (ended-falls (c .before .before .before .before .before .before .before .before .before .before .before .before .args .self) t (c .before .before .before .before .before .before .before .before .before .before .before .before .pre .0) (c .before .before .before .before .before .before .before .before .before .if1 .left), search needs)
+try-output-start-decryption-at-requires t c κs = (ended-falls (c .before .before .before .before .before .before .before .before .before .before .before .before .args .self) _ t (c .before .before .before .before .before .before .before .before .before .before .before .before .pre .0) ((ready (c .before .before .before .before .before .before .before .before .before .before .before .before .args .net) (c .before .before .before .before .before .before .before .before .before .before .before .before .args .proposer) (c .before .before .before .before .before .before .before .before .before .before .before .before .args .self) _ (c .before .before .before .before .before .before .before .count .ensures) (not-false _ (c .before .before .before .if1 .left))) .0) ((ready (c .before .before .before .before .before .before .before .before .before .before .before .before .args .net) (c .before .before .before .before .before .before .before .before .before .before .before .before .args .proposer) (c .before .before .before .before .before .before .before .before .before .before .before .before .args .self) _ (c .before .before .before .before .before .before .before .count .ensures) (not-false _ (c .before .before .before .if1 .left))) .3), search needs)
 
 try-output-enum-told : (t : ℕ) → try-output-lts.Need-enum-told (try-output-claims t) (try-output-at t) try-output.Post
 try-output-enum-told t c = search needs
 
--- src/lib.rt:351:13
+-- src/lib.rt:346:13
 try-output-same-length : (t : ℕ) → try-output-lts.Need-same-length (try-output-claims t) (try-output-at t) try-output.Post
 try-output-same-length t c = search needs
 
--- src/lib.rt:351:13
-try-output-returns-5 : (t : ℕ) → try-output-lts.Need-returns-5 (try-output-claims t) (try-output-at t) try-output.Post
-try-output-returns-5 t c = try-stops _ _ _ _ _ _ (c .before .before .before .before .before .before .before .before .before .before .before .before .before .if1 .left) (rw (← c .before .before .before .before .before .before .before .before .before .before .before .count .ensures) (c .before .before .before .before .before .before .before .before .before .if2 .left)) (c .before .before .before .before .before .before .before .if3 .left) (c .before .before .before .start-decryption-at .ensures) (not-nothing (c .before .before .before .start-decryption-at .result .outcome) (c .match .keys2))
+-- src/lib.rt:346:13
+try-output-returns-3 : (t : ℕ) → try-output-lts.Need-returns-3 (try-output-claims t) (try-output-at t) try-output.Post
+try-output-returns-3 t c = try-stops _ _ _ _ _ _ _ (ready (c .before .before .before .before .before .before .before .before .before .before .before .before .before .before .before .before .args .net) (c .before .before .before .before .before .before .before .before .before .before .before .before .before .before .before .before .args .proposer) (c .before .before .before .before .before .before .before .before .before .before .before .before .before .before .before .before .args .self) _ (c .before .before .before .before .before .before .before .before .before .before .before .count .ensures) (not-false _ (c .before .before .before .before .before .before .before .if1 .left))) (c .before .before .before .start-decryption-at .ensures) (not-nothing (c .before .before .before .start-decryption-at .result .outcome) (c .match .keys2))
 
--- src/lib.rt:355:13
+-- src/lib.rt:350:13
 try-output-combine-requires-2 : (t : ℕ) → try-output-lts.Need-combine-requires-2 (try-output-claims t) (try-output-at t) try-output.Post
 try-output-combine-requires-2 t c κs = search needs
 
--- src/lib.rt:356:9
-try-output-handled-requires-5 : (t : ℕ) → try-output-lts.Need-handled-requires-5 (try-output-claims t) (try-output-at t) try-output.Post
-try-output-handled-requires-5 t c κs = search needs
+-- src/lib.rt:351:9
+try-output-handled-requires-3 : (t : ℕ) → try-output-lts.Need-handled-requires-3 (try-output-claims t) (try-output-at t) try-output.Post
+try-output-handled-requires-3 t c κs = search needs
 
 -- src/lib.rt:318:5
 try-output-same-length-2 : (t : ℕ) → try-output-lts.Need-same-length-2 (try-output-claims t) (try-output-at t) try-output.Post
 try-output-same-length-2 t c = search needs
 
 -- src/lib.rt:318:5
-try-output-returns-6 : (t : ℕ) → try-output-lts.Need-returns-6 (try-output-claims t) (try-output-at t) try-output.Post
-try-output-returns-6 t c = hands-as (c .handled5 .ensures) ∙ c .before .combine2 .ensures _ _ _ ∙ try-goes _ _ _ _ _ _ (c .before .before .before .before .before .before .before .before .before .before .before .before .before .before .before .before .before .before .before .if1 .left) (rw (← c .before .before .before .before .before .before .before .before .before .before .before .before .before .before .before .before .before .count .ensures) (c .before .before .before .before .before .before .before .before .before .before .before .before .before .before .before .if2 .left)) (c .before .before .before .before .before .before .before .before .before .before .before .before .before .if3 .left) (c .before .before .before .before .before .before .before .before .before .start-decryption-at .ensures) (ap verdict (c .before .before .before .before .before .enum-told .given .1))
+try-output-returns-4 : (t : ℕ) → try-output-lts.Need-returns-4 (try-output-claims t) (try-output-at t) try-output.Post
+try-output-returns-4 t c = hands-as (c .handled3 .ensures) ∙ c .before .combine2 .ensures _ _ _ ∙ try-goes _ _ _ _ _ _ _ (ready (c .before .before .before .before .before .before .before .before .before .before .before .before .before .before .before .before .before .before .before .before .before .before .args .net) (c .before .before .before .before .before .before .before .before .before .before .before .before .before .before .before .before .before .before .before .before .before .before .args .proposer) (c .before .before .before .before .before .before .before .before .before .before .before .before .before .before .before .before .before .before .before .before .before .before .args .self) _ (c .before .before .before .before .before .before .before .before .before .before .before .before .before .before .before .before .before .count .ensures) (not-false _ (c .before .before .before .before .before .before .before .before .before .before .before .before .before .if1 .left))) (c .before .before .before .before .before .before .before .before .before .start-decryption-at .ensures) (ap verdict (c .before .before .before .before .before .enum-told .given .1))
 
 pub +start-decryption-at+try-output-spec : {M : Type 1} → statement M
 +start-decryption-at+try-output-spec =
@@ -277,21 +261,17 @@ pub +start-decryption-at+try-output-spec : {M : Type 1} → statement M
     λ t. try-output-lts.spec (try-output-claims t)
     (try-output-at t)
     try-output.Post
+    (try-output-count-requires t)
     (try-output-handled-requires t)
     (try-output-returns t)
-    (try-output-count-requires t)
+    (try-output-combine-requires t)
     (try-output-handled-requires-2 t)
     (try-output-returns-2 t)
-    (try-output-handled-requires-3 t)
-    (try-output-returns-3 t)
-    (try-output-combine-requires t)
-    (try-output-handled-requires-4 t)
-    (try-output-returns-4 t)
     (try-output-start-decryption-at-requires t)
     (try-output-enum-told t)
     (try-output-same-length t)
-    (try-output-returns-5 t)
+    (try-output-returns-3 t)
     (try-output-combine-requires-2 t)
-    (try-output-handled-requires-5 t)
+    (try-output-handled-requires-3 t)
     (try-output-same-length-2 t)
-    (try-output-returns-6 t)
+    (try-output-returns-4 t)
