@@ -28,7 +28,7 @@ use steps::step::Step;
 use work::commit::commit;
 use work::commit::count_faults;
 use work::honey_badger::Call;
-use work::honey_badger::run_from;
+use work::honey_badger::run;
 
 // Whether no answer is left unread.
 fn is_end(answers: &[u64], place: usize) -> bool
@@ -124,7 +124,7 @@ fn finish(
     }
     let mut again = answers[0] as usize;
     let writing = counted.writing();
-    let second = run_from(
+    let second = run(
         state,
         epoch,
         call,
@@ -157,7 +157,7 @@ fn run_twice(
 {
     let mut place = answers[0] as usize;
     let counting = Step::counting();
-    let first = run_from(
+    let first = run(
         state,
         epoch,
         call,

@@ -39,7 +39,6 @@ use state::words::strategy_of;
 use steps::numbers::CREATE_SUBSET;
 use steps::numbers::INSTANCES_BUILT;
 use steps::reader::Answer;
-use steps::reader::Cursor;
 use steps::step::Step;
 use subset::words::RECORD_FIELDS;
 
@@ -268,7 +267,8 @@ fn call_epoch(
     call_body(state, epoch, call, words, answers, place, step, table)
 }
 
-fn run_at(
+// A run: the epoch's call on its words, then batches are handed out. The state is only read.
+pub fn run(
     state: &[u64],
     epoch: u64,
     call: Call,
@@ -309,52 +309,4 @@ fn run_at(
             step: all,
         },
     }
-}
-
-// A run: the epoch's call on its words, then batches are handed out. The state is only read.
-pub fn run(
-    state: &[u64],
-    epoch: u64,
-    call: Call,
-    words: &mut [u64],
-    cursor: &mut Cursor,
-    answers: &[u64],
-    step: Step,
-    table: &mut [u64],
-) -> Ran
-    requires { ⌜ (stateOk (now state) ≡ true) × CallOk call (nodes (now state)) × (length (now words) ≡ epochLength (nodes (now state))) ⌝ }
-    ensures { λ r. ⌜ (leftRan r (now (words .exit)) (tapeAt (now (answers .entry)) (now (cursor .exit) .place)) (now (table .exit))
-        ≡ leaves (out step (now (table .entry))) (callWork call epoch (now (state .entry)) (tapeAt (now (answers .entry)) (now (cursor .entry) .place))))
-        × (now (cursor .exit) .last ≡ now (cursor .entry) .last) ⌝ }
-{
-    run_at(
-        state,
-        epoch,
-        call,
-        words,
-        answers,
-        &mut cursor.place,
-        step,
-        table,
-    )
-}
-
-pub fn run_from(
-    state: &[u64],
-    epoch: u64,
-    call: Call,
-    words: &mut [u64],
-    answers: &[u64],
-    place: &mut usize,
-    step: Step,
-    table: &mut [u64],
-) -> Ran
-    requires { ⌜ (stateOk (now state) ≡ true) × CallOk call (nodes (now state)) × (length (now words) ≡ epochLength (nodes (now state))) ⌝ }
-    ensures { λ r. ⌜ leftRan r (now (words .exit)) (tapeAt (now (answers .entry)) (now (place .exit))) (now (table .exit))
-        ≡ leaves (out step (now (table .entry))) (callWork call epoch (now (state .entry)) (tapeAt (now (answers .entry)) (now (place .entry)))) ⌝ }
-{
-    let mut cursor = steps::reader::cursor_at(answers, *place);
-    let ran = run(state, epoch, call, words, &mut cursor, answers, step, table);
-    *place = cursor.place;
-    ran
 }

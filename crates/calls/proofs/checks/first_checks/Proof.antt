@@ -10,9 +10,9 @@ use Rattle.calls.proofs.checks.first_checks.Statement.{statement}
 use Rattle.calls.proofs.checks.first_checks.Tie as tie
 use Rattle.calls.proofs.checks.first_checks.Reads as reads
 use Rattle.calls.proofs.checks.first_checks.Lts as lts
-use Rattle.answers.proofs.table_ok.Reads as table-ok-reads
 use Rattle.state.proofs.range.scratch_length.Reads as scratch-length-reads
 use Rattle.state.proofs.range.state_ok.Reads as state-ok-reads
+use Rattle.answers.proofs.table_ok.Reads as table-ok-reads
 
 -- src/checks.rt:34:9
 state-ok-requires : tie.Need-state-ok-requires

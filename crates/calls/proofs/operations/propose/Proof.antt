@@ -15,8 +15,8 @@ use Rattle.calls.proofs.operations.propose.Reads as reads
 use Rattle.calls.proofs.operations.propose.Lts as lts
 use Rattle.calls.proofs.call.rest.Reads as rest-reads
 use Rattle.calls.proofs.call.settle.Reads as settle-reads
-use Rattle.network.proofs.network_info.NetworkInfo.is_validator.Reads as is-validator-reads
 use Rattle.state.proofs.words.net_of.Reads as net-of-reads
+use Rattle.network.proofs.network_info.NetworkInfo.is_validator.Reads as is-validator-reads
 
 -- src/operations.rt:24:17
 slice-read-epoch : tie.Need-slice-read-epoch
