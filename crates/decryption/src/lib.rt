@@ -330,6 +330,7 @@ impl ThresholdDecrypt {
     {
         let mut td = self;
         let shares = td.shares;
+        // One test, so that the stack holds the instance once.
         let combines = !td.terminated & (net.num_faulty < count(shares)) & (td.ciphertext != 0);
         td.terminated = td.terminated | combines;
         if !combines {
@@ -448,6 +449,7 @@ impl ThresholdDecrypt {
             Validity::Refused => self.handled(Outcome::Refused, step),
         }
     }
+
     // Handles a share that this sender sent. The caller has refused an unknown sender.
     pub fn handle_message(
         self,
