@@ -84,9 +84,9 @@ module _ {M : Type 1} (𝓤 : URA M) (H : Heap 𝓤) (A : Atoms 𝓤) (W : Given
       move ! (1 ∷ []) $ peeks ! usize (Is usize) (shows 𝓤 H A usize) p (vint w64 p ∷ []) (λ is. drop ! $ move ! (1 ∷ []) $
       use1 W (raw (Back h (vint w64 p))) (allE 𝓤 (Back h) (vint w64 p)) $ move ! (1 ∷ 0 ∷ []) $
       use2 W (‵ (behind (moved h p))) (apply∗ 𝓤 (H .at fullShare (tyInt w64) b (o + 0) (vint w64 p)) (sem 𝓤 H A (behind (moved h p)))) $ at-once ! $ check ! (moved-is h p was (is .1)) $ done !))
-  -- ---- a cursor in a local
 
 module _ {M : Type 1} (𝓤 : URA M) (H : Heap 𝓤) (A : Atoms 𝓤) (W : Given 𝓤 H A) (α l : ℕ) where
+  -- ---- a cursor in the local l
   abbrev pub cell : Cursor → Fml
   cell h = fat fullShare T′.mir l 0 (T′.lowered h)
 
