@@ -7,7 +7,7 @@ use mathlib.Core.Option.{Option, none, some}
 use native.Mathlib.Omega.{arith}
 use lib.ListN.{set}
 use lib.Dec.{eqb, ltb}
-use borrow.Author.Tests.{ltb-true, ltb-false, eqb-true, eqb-false, not-true, le-leb, lt-leb, eq-eqb, ne-eqb}
+use borrow.Author.Tests.{ltb-true, ltb-false, eqb-true, eqb-false, not-true, not-false, le-leb, lt-leb, eq-eqb, ne-eqb}
 use Rattle.network.specs.declared.network_info.NetworkInfo.{NetworkInfo}
 use Rattle.steps.specs.declared.reader.Answer.{Answer}
 use Rattle.steps.specs.declared.reader.Answer.the-variants.{Got, Refused as NoAnswer}
@@ -105,7 +105,7 @@ module _ (net : NetworkInfo) (proposer : ℕ) where
       let b = and-true _ _ (a .0) in
       (not-true _ (b .0), rw (← k) (ltb-true _ _ (b .1)), eqb-false _ _ (not-true _ (a .1)), rw (e, not-true (td .terminated) (b .0)) refl)
 
-  pub try-waits : (td : ThresholdDecrypt) (p : Tape) (n : ℕ) → n ≡ countShares (td .shares) → combinesNow td n ≡ false → tryOutput net proposer td p ≡ ends (going none) (marked td (combinesNow td n)) p
+  try-waits : (td : ThresholdDecrypt) (p : Tape) (n : ℕ) → n ≡ countShares (td .shares) → combinesNow td n ≡ false → tryOutput net proposer td p ≡ ends (going none) (marked td (combinesNow td n)) p
   try-waits td p n k e = rw (e, unmarked td) (go _ _ _ refl refl refl)
     where
       go : (x y z : Bool) → td .terminated ≡ x → ltb (net .«num_faulty») n ≡ y → eqb (td .ciphertext) 0 ≡ z → tryOutput net proposer td p ≡ ends (going none) td p
@@ -135,9 +135,18 @@ module _ (net : NetworkInfo) (proposer : ℕ) where
   try-onward td p e h z = rw (e, lt-leb _ _ h, ne-eqb _ _ z) (ap (λ r. onward r (λ _ td q. combine td q)) (start-ended td p))
 
   -- once it has started, the shares are combined at once
-  pub try-started : (td m : ThresholdDecrypt) (p : Tape) → Ready td m → td .«had_input» ≡ true → tryOutput net proposer td p ≡ combine m p
+  try-started : (td m : ThresholdDecrypt) (p : Tape) → Ready td m → td .«had_input» ≡ true → tryOutput net proposer td p ≡ combine m p
   unfolding onward onwardAs
   try-started td m p r s = rw (r .3, try-onward td p (r .0) (r .1) (r .2), start-redundant (withEnd td) p s)
+
+  -- where nothing is to be started the shares are combined, or it waits
+  pub try-rest : (td : ThresholdDecrypt) (p : Tape) (n : ℕ) → n ≡ countShares (td .shares) → (combinesNow td n && not (td .«had_input»)) ≡ false
+      → tryOutput net proposer td p ≡ cond (combinesNow td n) (combine (marked td (combinesNow td n)) p) (ends (going none) (marked td (combinesNow td n)) p)
+  try-rest td p n k e = go _ refl
+    where
+      go : (x : Bool) → combinesNow td n ≡ x → tryOutput net proposer td p ≡ cond x (combine (marked td (combinesNow td n)) p) (ends (going none) (marked td (combinesNow td n)) p)
+      go true c = try-started td (marked td (combinesNow td n)) p (ready td n k c) (not-false _ (sym (ap (λ x. x && not (td .«had_input»)) c) ∙ e))
+      go false c = try-waits td p n k c
 
   own-quiet : (td : ThresholdDecrypt) (p : Tape) → Afterwards (ownShare net proposer (ends (going none)) td p) (λ o s q. o ≡ none)
   unfolding ownShare

@@ -5,11 +5,13 @@
 ghost use mathlib.Core.Path.{_≡_};
 ghost use Prim.Native.Nat.{ℕ, _<_};
 ghost use mathlib.Core.List.{List};
+ghost use mathlib.Core.Bool.{cond};
+ghost use mathlib.Core.Option.{none};
 ghost use Rattle.network.specs.Network.{Network};
 ghost use Rattle.steps.specs.Answers.{tapeAt};
 ghost use Rattle.steps.specs.declared.step.Step.{Step};
 ghost use Rattle.steps.specs.Steps.{out};
-ghost use Rattle.steps.specs.Runs.{leaves};
+ghost use Rattle.steps.specs.Runs.{going, ends, leaves};
 ghost use Rattle.decryption.specs.declared.ThresholdDecrypt.{ThresholdDecrypt};
 ghost use Rattle.decryption.specs.Outcomes.{leftSet, leftValid, leftChecked, left, handled};
 ghost use Rattle.decryption.specs.Decrypt.{new, isSender, countShares, setCiphertext, isShareValid, removeInvalidShares, combine, startDecryption, tryOutput, storeShare, handleMessage};
@@ -110,6 +112,17 @@ fn combine(answers: &[u64], place: &mut usize) -> Outcome
         }
         Answer::Refused => Outcome::Refused,
     }
+}
+
+// The same where there is something to combine.
+fn combine_if(combines: bool, answers: &[u64], place: &mut usize) -> Outcome
+    ensures { λ r. ⌜ ((td : ThresholdDecrypt) (s : Step) (w : List ℕ) → left (handled td r s) (tapeAt (now (answers .entry)) (now (place .exit))) w
+        ≡ leaves (out s w) (cond combines (combine td (tapeAt (now (answers .entry)) (now (place .entry)))) (ends (going none) td (tapeAt (now (answers .entry)) (now (place .entry)))))) ⌝ }
+{
+    if !combines {
+        return Outcome::Nothing;
+    }
+    combine(answers, place)
 }
 
 impl ThresholdDecrypt {
@@ -330,26 +343,22 @@ impl ThresholdDecrypt {
     {
         let mut td = self;
         let shares = td.shares;
-        // One test, so that the stack holds the instance once.
+        // One test, and one return where nothing is to be started, so that the stack holds the instance once.
         let combines = !td.terminated & (net.num_faulty < count(shares)) & (td.ciphertext != 0);
         td.terminated = td.terminated | combines;
-        if !combines {
-            return td.handled(Outcome::Nothing, step);
-        }
-        // Starting again would change nothing.
-        if td.had_input {
+        if combines & !td.had_input {
+            let started = td.start_decryption_at(net, proposer, answers, place, step, words);
+            let outcome = started.outcome;
+            let Outcome::Nothing = outcome else {
+                return started;
+            };
+            let last = started.td;
+            let done = started.step;
             let combined = combine(answers, place);
-            return td.handled(combined, step);
+            return last.handled(combined, done);
         }
-        let started = td.start_decryption_at(net, proposer, answers, place, step, words);
-        let outcome = started.outcome;
-        let Outcome::Nothing = outcome else {
-            return started;
-        };
-        let last = started.td;
-        let done = started.step;
-        let combined = combine(answers, place);
-        last.handled(combined, done)
+        let combined = combine_if(combines, answers, place);
+        td.handled(combined, step)
     }
 
     // Sends the own share, and tries to combine.

@@ -9,31 +9,31 @@ use Rattle.decryption.proofs.ThresholdDecrypt.is_share_valid.Reads as r
 use Rattle.decryption.proofs.ThresholdDecrypt.is_share_valid.Lts as lts
 use Rattle.steps.proofs.reader.ask_about_from.Reads as ask-about-from-reads
 
--- src/lib.rt:211:13
+-- src/lib.rt:224:13
 returns : tie.Need-returns
 returns c = sym (valid-early _ _ _ (c .if1 .taken))
 
--- src/lib.rt:213:15
+-- src/lib.rt:226:15
 ask-about-from-requires : tie.Need-ask-about-from-requires
 ask-about-from-requires c κs = search needs
 
--- src/lib.rt:214:27
+-- src/lib.rt:227:27
 enum-known-a : tie.Need-enum-known-a
 enum-known-a c = search needs
 
--- src/lib.rt:216:21
+-- src/lib.rt:229:21
 returns-2 : tie.Need-returns-2
 returns-2 c = sym (valid-told _ _ _ _ _ (c .before .before .before .before .ask-about-from .ensures) (c .before .before .before .before .before .before .if1 .left) _ _ (c .before .before .a .given .1) ∙ rw (eq-eqb _ _ (c .if2 .taken)))
 
--- src/lib.rt:220:32
+-- src/lib.rt:233:32
 enum-told : tie.Need-enum-told
 enum-told c = search needs
 
--- src/lib.rt:206:5
+-- src/lib.rt:219:5
 returns-3 : tie.Need-returns-3
 returns-3 c = sym (valid-told _ _ _ _ _ (c .before .before .before .before .ask-about-from .ensures) (c .before .before .before .before .before .before .if1 .left) _ _ (c .before .before .a .given .1) ∙ rw (ne-eqb _ _ (c .if2 .left)))
 
--- src/lib.rt:206:5
+-- src/lib.rt:219:5
 returns-4 : tie.Need-returns-4
 returns-4 c = sym (valid-refused _ _ _ _ _ (c .before .before .ask-about-from .ensures) (c .before .before .before .before .if1 .left) (c .enum-told .given .1))
 

@@ -8,31 +8,31 @@ use Rattle.decryption.proofs.ThresholdDecrypt.set_ciphertext_at.Reads a
 use Rattle.decryption.proofs.ThresholdDecrypt.set_ciphertext_at.Lts as lts
 use Rattle.steps.proofs.reader.ask_about_from.Reads as ask-about-from-reads
 
--- src/lib.rt:147:13
+-- src/lib.rt:160:13
 returns : tie.Need-returns
 returns c = sym (set-twice _ _ _ _ (c .if1 .taken))
 
--- src/lib.rt:152:15
+-- src/lib.rt:165:15
 ask-about-from-requires : tie.Need-ask-about-from-requires
 ask-about-from-requires c κs = search needs
 
--- src/lib.rt:153:27
+-- src/lib.rt:166:27
 enum-known-a : tie.Need-enum-known-a
 enum-known-a c = search needs
 
--- src/lib.rt:155:21
+-- src/lib.rt:168:21
 returns-2 : tie.Need-returns-2
 returns-2 c = sym (set-invalid _ _ _ _ _ _ (c .before .before .before .before .ask-about-from .ensures) (c .before .before .before .before .before .before .if1 .left) _ _ (c .before .before .a .given .1) (c .if2 .taken))
 
--- src/lib.rt:169:26
+-- src/lib.rt:182:26
 enum-told : tie.Need-enum-told
 enum-told c = search needs
 
--- src/lib.rt:136:5
+-- src/lib.rt:149:5
 returns-3 : tie.Need-returns-3
 returns-3 c = sym (set-verified _ _ _ _ _ _ (c .before .before .before .before .ask-about-from .ensures) (c .before .before .before .before .before .before .if1 .left) _ _ (c .before .before .a .given .1) (c .if2 .left))
 
--- src/lib.rt:136:5
+-- src/lib.rt:149:5
 returns-4 : tie.Need-returns-4
 returns-4 c = sym (set-refused _ _ _ _ _ _ (c .before .before .ask-about-from .ensures) (c .before .before .before .before .if1 .left) (c .enum-told .given .1))
 
