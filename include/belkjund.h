@@ -174,7 +174,7 @@ enum hb_schedule {
     HB_ALWAYS = 0,
     HB_NEVER = 1,
     HB_EVERY_NTH_EPOCH = 2, /* number_a = n: where epoch mod n is 0 */
-    HB_TICK_TOCK = 3        /* number_a = on, number_b = off: where epoch mod (on + off) is at most on */
+    HB_TICK_TOCK = 3        /* number_a = on, number_b = off: the first `on` epochs of each period of on + off, from epoch 0; the others are plain */
 };
 
 /* OPERATIONS ---------------------------------------------------------------------------------------------------------------------------

@@ -1,4 +1,4 @@
-/* The C interface: lengths, replies, what stays untouched, empty buffers, and the bench cases 1, 2, 6, 9, 11 and 12 of document 01. Compiled as C99 and as C++. */
+/* The C interface: lengths, replies, what stays untouched, empty buffers, and the bench cases 1, 2, 6, 9, 10, 11 and 12 of document 01. Compiled as C99 and as C++. */
 #include "belkjund.h"
 #include "belkjund.h" /* twice does no harm */
 
@@ -91,6 +91,28 @@ static void propose(uint64_t reads)
     CHECK(hb_fault_count(state, SMALL, &faults) == HB_SUCCESS && faults == 1 - reads);
 }
 
+/* Case 10: a schedule's first epochs, '1' for an encrypted one, where case 1's answers lack one about the ciphertext */
+static void encrypts(uint64_t schedule, uint64_t a, uint64_t b, const char *epochs)
+{
+    uint64_t state[SMALL], scratch[SMALL], answers[32], step[12];
+    size_t len = case_1_answers(answers, 32, 1);
+    for (uint64_t epoch = 0; epochs[epoch] != 0; epoch++) {
+        CHECK(hb_create(1, 0, 0, 0, 1, HB_INCREMENTAL, epoch, schedule, a, b, state, SMALL) == HB_SUCCESS);
+        uint64_t reply = hb_propose(state, SMALL, scratch, SMALL, answers, len, step, 12);
+        CHECK(reply == (uint64_t)(epochs[epoch] == '1' ? HB_ANSWER_NOT_NEXT : HB_SUCCESS));
+    }
+}
+
+static void schedules(void)
+{
+    encrypts(HB_TICK_TOCK, 1, 1, "1010");
+    encrypts(HB_TICK_TOCK, 1, 2, "100100");
+    encrypts(HB_TICK_TOCK, 2, 1, "110110");
+    encrypts(HB_TICK_TOCK, 0, 1, "000");
+    encrypts(HB_TICK_TOCK, 2, 0, "1111");
+    encrypts(HB_EVERY_NTH_EPOCH, 2, 0, "1010");
+}
+
 /* A buffer of no words may be NULL, and each gets its reply */
 static void empty_buffers(void)
 {
@@ -167,6 +189,7 @@ int main(void)
     create();
     propose(1);
     propose(0);
+    schedules();
     empty_buffers();
     message();
     skip();

@@ -1,4 +1,4 @@
--- The twelve bench cases of document 01, as one table under one statement, `bench-cases`, which is proved by computing the definitions.
+-- The twelve bench cases of document 01 (case 10 as request g has it), as one table under one statement, `bench-cases`, which is proved by computing the definitions.
 -- Where the rows that the document gives would not refuse one of its plausible but wrong programs, there are more. Assumes nothing.
 use Prim.Native.Nat.{ℕ}
 use mathlib.Core.Path.{refl}
@@ -276,25 +276,44 @@ case-9-batch =
     ∷ (currentEpoch ⇒ 0 ∷ 2 ∷ [])
     ∷ []
 
--- CASE 10. "TickTock(1,1): epochs 0 and 1 encrypted." So the chain of case 1 lacks kind 8 in epoch 1
-abbrev pub case-10-on : Rows
-case-10-on =
-    (create (numbers 1 0 0 0 1 0 1 3 1 1) 41 ⇒ 0 ∷ [])
+-- CASE 10, as request g has it. "(1,1) encrypts 0 and not 1." So the chain of case 1 lacks kind 8 in epoch 0, and passes in epoch 1
+abbrev pub case-10 : Rows
+case-10 =
+    (create (numbers 1 0 0 0 1 0 0 3 1 1) 41 ⇒ 0 ∷ [])
     ∷ (encrypts 0 ⇒ 1 ∷ [])
-    ∷ (encrypts 1 ⇒ 1 ∷ [])
+    ∷ (encrypts 1 ⇒ 0 ∷ [])
     ∷ (propose chain-1 (nines 16) ⇒ 8 ∷ nines 16)
     ∷ (propose (table (yes 1 0 ∷ yes 2 7 ∷ yes 3 0 ∷ out 7 ∷ yes 6 0 ∷ out 1 ∷ yes 8 0 ∷ yes 9 0 ∷ yes 11 501 ∷ yes 12 900 ∷ yes 13 0 ∷ [])) (nines 16)
-    ⇒ 0 ∷ rec 1 0 2 1 ++ rec 0 3 0 501 ++ rec 3 1 1 1 ++ rec 0 2 0 900)
+    ⇒ 0 ∷ rec 1 0 2 0 ++ rec 0 3 0 501 ++ rec 3 1 0 1 ++ rec 0 2 0 900)
+    ∷ (propose chain-1 (nines 16) ⇒ 0 ∷ rec 0 0 1 1 ++ rec 2 1 1 1 ++ rec 0 2 0 7 ++ nines 4)
+    -- the next period begins
+    ∷ (propose chain-1 (nines 16) ⇒ 8 ∷ nines 16)
     ∷ []
 
--- "TickTock(1,2): 2 plain."
-abbrev pub case-10-off : Rows
-case-10-off =
+-- "TickTock(1,2): 2 plain", as before; 1 is plain too. Then on 0, off 0, and more than one on
+abbrev pub case-10-further : Rows
+case-10-further =
     (create (numbers 1 0 0 0 1 0 2 3 1 2) 41 ⇒ 0 ∷ [])
+    ∷ (encrypts 0 ⇒ 1 ∷ [])
+    ∷ (encrypts 1 ⇒ 0 ∷ [])
+    ∷ (encrypts 2 ⇒ 0 ∷ [])
+    ∷ (encrypts 3 ⇒ 1 ∷ [])
+    ∷ (propose chain-1 (nines 16) ⇒ 0 ∷ rec 0 0 1 2 ++ rec 2 1 2 1 ++ rec 0 2 0 7 ++ nines 4)
+    ∷ (create (numbers 1 0 0 0 1 0 0 3 0 1) 41 ⇒ 0 ∷ [])
+    ∷ (encrypts 0 ⇒ 0 ∷ [])
+    ∷ (encrypts 1 ⇒ 0 ∷ [])
+    ∷ (create (numbers 1 0 0 0 1 0 0 3 2 0) 41 ⇒ 0 ∷ [])
+    ∷ (encrypts 0 ⇒ 1 ∷ [])
+    ∷ (encrypts 1 ⇒ 1 ∷ [])
+    ∷ (encrypts 2 ⇒ 1 ∷ [])
+    ∷ (create (numbers 1 0 0 0 1 0 0 3 2 1) 41 ⇒ 0 ∷ [])
     ∷ (encrypts 0 ⇒ 1 ∷ [])
     ∷ (encrypts 1 ⇒ 1 ∷ [])
     ∷ (encrypts 2 ⇒ 0 ∷ [])
-    ∷ (propose chain-1 (nines 16) ⇒ 0 ∷ rec 0 0 1 2 ++ rec 2 1 2 1 ++ rec 0 2 0 7 ++ nines 4)
+    ∷ (encrypts 3 ⇒ 1 ∷ [])
+    -- the state holds the customer's numbers, not those that the Rust is run with
+    ∷ (wordAt 8 ⇒ 2 ∷ [])
+    ∷ (wordAt 9 ⇒ 1 ∷ [])
     ∷ []
 
 -- CASE 11. "Case 1 with two step records gives 10, with three passes."
@@ -336,8 +355,8 @@ bench =
     ∷ case (after case-7) case-8
     ∷ case [] case-9
     ∷ case [] case-9-batch
-    ∷ case [] case-10-on
-    ∷ case [] case-10-off
+    ∷ case [] case-10
+    ∷ case [] case-10-further
     ∷ case [] case-11
     ∷ case [] case-12
     ∷ []

@@ -36,7 +36,7 @@ impl EncryptionSchedule {
             EncryptionSchedule::Always => true,
             EncryptionSchedule::Never => false,
             EncryptionSchedule::EveryNthEpoch(n) => epoch % n == 0,
-            EncryptionSchedule::TickTock(on, off) => epoch % (on + off) <= on,
+            EncryptionSchedule::TickTock(on, off) => epoch % (on + off) < on,
         }
     }
 }

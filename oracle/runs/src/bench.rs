@@ -10,6 +10,7 @@ use crate::engine;
 use crate::generate::{run_with, Class};
 use crate::oracle::{Call, Trouble};
 use crate::record::Record;
+use crate::schedule::original_numbers;
 use crate::state::state_len;
 use crate::table;
 
@@ -122,7 +123,7 @@ impl Run {
     }
 
     fn original(&mut self) {
-        let mut x = Instance::new(&self.numbers);
+        let mut x = Instance::new(&original_numbers(&self.numbers));
         for i in 0..self.actions.len() {
             let (start, end);
             match &self.actions[i] {

@@ -6,6 +6,7 @@ use original::driver::Numbers;
 
 use crate::oracle::{Call, MAX_EPOCH};
 use crate::record::Record;
+use crate::schedule::{given, is_encrypted, TICK_TOCK};
 
 /// How often each thing occurs, by its name.
 pub type Counts = BTreeMap<String, u64>;
@@ -47,6 +48,11 @@ pub fn rows() -> Vec<String> {
         "skips that change nothing",
         "shares for an unknown proposer (reply 7)",
         "step tables without a header (reply 10)",
+        "calls with TickTock, both numbers above 0",
+        "calls with TickTock, on 0",
+        "calls with TickTock, off 0",
+        "batches of encrypted epochs, TickTock",
+        "batches of plain epochs, TickTock",
         "runs that start at most 12 epochs before 2^62",
         "runs without a failure and with a batch",
     ];
@@ -62,6 +68,10 @@ pub fn count(records: &[Record]) -> Counts {
     let mut current = 0;
     for record in records {
         let mut add = |row: String| *counts.entry(row).or_default() += 1;
+        if matches!(record, Record::Call { .. } | Record::Skip { .. }) {
+            add("calls".into());
+            count_tick_tock(run.as_ref().expect("a create"), &mut add);
+        }
         match record {
             Record::Create { numbers, reply } => {
                 add(format!("create reply {}", reply));
@@ -87,7 +97,6 @@ pub fn count(records: &[Record]) -> Counts {
                 add(format!("runs of {}", if observer { "an observer" } else { "a validator" }));
             }
             Record::Skip { target, reply, .. } => {
-                add("calls".into());
                 add(format!("skip reply {}", reply));
                 if *reply == 0 && *target <= current {
                     add("skips that change nothing".into());
@@ -100,7 +109,6 @@ pub fn count(records: &[Record]) -> Counts {
             }
             Record::Queries(_) => {}
             Record::Call { call, records, answers, reply, .. } => {
-                add("calls".into());
                 let name = if *call == Call::Propose { "propose" } else { "message" };
                 add(format!("{} reply {}", name, reply.reply));
                 failed |= reply.reply >= 20;
@@ -141,6 +149,17 @@ pub fn count(records: &[Record]) -> Counts {
     counts
 }
 
+fn count_tick_tock(x: &Numbers, add: &mut impl FnMut(String)) {
+    if let [TICK_TOCK, on, off] = given(x) {
+        let which = match (on, off) {
+            (0, _) => "on 0",
+            (_, 0) => "off 0",
+            _ => "both numbers above 0",
+        };
+        add(format!("calls with TickTock, {}", which));
+    }
+}
+
 fn count_answers(table: &[u64], add: &mut impl FnMut(String)) {
     let mut at = 0;
     let mut read = 1;
@@ -170,9 +189,12 @@ fn count_step(step: &[u64], numbers: &Numbers, add: &mut impl FnMut(String)) -> 
             add(format!("{} {}", name, kind));
             if i == 2 && kind == 1 {
                 batches += 1;
-                let encrypted = is_encrypted(numbers, a);
+                let encrypted = is_encrypted(given(numbers), a);
                 let kind = if encrypted { "encrypted" } else { "plain" };
                 add(format!("batches of {} epochs", kind));
+                if numbers.schedule == TICK_TOCK {
+                    add(format!("batches of {} epochs, TickTock", kind));
+                }
                 if batches == 1 && a < step[3] {
                     add("calls for a later epoch with a batch".into());
                 }
@@ -187,13 +209,4 @@ fn count_step(step: &[u64], numbers: &Numbers, add: &mut impl FnMut(String)) -> 
         add(format!("calls with batches: {}", batches));
     }
     batches
-}
-
-pub fn is_encrypted(x: &Numbers, epoch: u64) -> bool {
-    match x.schedule {
-        0 => true,
-        1 => false,
-        2 => epoch % x.number_a == 0,
-        _ => epoch % (x.number_a + x.number_b) <= x.number_a,
-    }
 }

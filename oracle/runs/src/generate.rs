@@ -239,6 +239,25 @@ impl Run<'_> {
     }
 }
 
+/// The highest number of a schedule.
+const BIG: u64 = (1 << 32) - 1;
+
+/// TickTock's numbers: both above 0, on 0, off 0.
+const TICK_TOCKS: [(u64, u64); 12] = [
+    (1, 1),
+    (1, 2),
+    (2, 1),
+    (3, 2),
+    (1, BIG - 1),
+    (BIG - 1, 1),
+    (0, 1),
+    (0, 4),
+    (0, BIG),
+    (1, 0),
+    (2, 0),
+    (BIG, 0),
+];
+
 /// Create's numbers. N, f and schedule are shared by a pair of runs, the others may differ.
 fn choose_numbers(
     class: &Class,
@@ -260,11 +279,10 @@ fn choose_numbers(
         true => shared.below((n - 1) / 3),
         false => (n - 1) / 3,
     };
-    let big = (1 << 32) - 1;
     let schedule = shared.pick(&[0, 1, 1, 2, 3]);
     let (number_a, number_b) = match schedule {
-        2 => (shared.pick(&[1, 2, 3, 5, big]), own.word()),
-        3 => shared.pick(&[(1, 1), (1, 2), (0, 1), (2, 0), (3, 2), (0, 4), (big, 0), (0, big)]),
+        2 => (shared.pick(&[1, 2, 3, 5, BIG]), own.word()),
+        3 => shared.pick(&TICK_TOCKS),
         _ => (own.word(), own.word()),
     };
     let look_ahead = match class.ahead {

@@ -8,14 +8,26 @@ use std::rc::Rc;
 use original::driver::{Instance, Numbers, StepLists};
 
 use crate::asker;
-use crate::count::is_encrypted;
 use crate::damage::{lay_out, Layout};
 use crate::engine;
 use crate::oracle::{self, Call, Ended};
 use crate::random::{hash, Random};
+use crate::schedule::{given, is_encrypted, original_numbers, Schedule};
 use crate::state;
 use crate::table::step_lists;
 use crate::world::{Asked, World};
+
+/// Kinds and numbers; TickTock with on 0 and with off 0 too.
+const SCHEDULES: [(u64, u64, u64); 8] = [
+    (0, 0, 0),
+    (1, 0, 0),
+    (2, 2, 0),
+    (3, 1, 1),
+    (3, 1, 2),
+    (3, 2, 3),
+    (3, 0, 2),
+    (3, 2, 0),
+];
 
 /// What all hosts of a group must have in common: batches by epoch, and whose contributions did
 /// not read, in order.
@@ -84,9 +96,9 @@ impl Host {
     }
 
     /// The engine takes over the words that the original's state stands for.
-    fn replace(&mut self) {
+    fn replace(&mut self, schedule: Schedule) {
         if let Host::Original(instance, faults) = self {
-            *self = Host::Engine(state::words(&instance.debug(), *faults));
+            *self = Host::Engine(state::words(&instance.debug(), schedule, *faults));
         }
     }
 }
@@ -142,7 +154,7 @@ pub fn run(
         let done = group.now.iter().map(|x| x.0).min().unwrap_or(0) - start;
         // Whatever the host is at.
         if mix == Mix::Replaced && replaced < n && done * (n + 1) > replaced * epochs {
-            group.hosts[replaced as usize].replace();
+            group.hosts[replaced as usize].replace(given(&group.numbers));
             replaced += 1;
         }
     }
@@ -157,7 +169,7 @@ pub fn run(
         return Err("not all hosts were replaced".into());
     }
     totals.epochs += epochs;
-    let encrypted = |epoch: &u64| is_encrypted(&group.numbers, *epoch);
+    let encrypted = |epoch: &u64| is_encrypted(given(&group.numbers), *epoch);
     totals.encrypted += (start..group.end).filter(encrypted).count() as u64;
     totals.batches += group.outcomes.iter().map(|x| x.batches.len() as u64).sum::<u64>();
     totals.entries += outcome.batches.values().map(|x| x.len() as u64 - 1).sum::<u64>();
@@ -172,7 +184,7 @@ impl Group {
         // The originals' places depend on the mix; all else is the same for each mix.
         let mut random = Random::new(&[seed, n]);
         let start = random.pick(&[0, 1, 1000]);
-        let schedule = random.pick(&[(0, 0, 0), (1, 0, 0), (2, 2, 0), (3, 1, 2), (3, 2, 3)]);
+        let schedule = random.pick(&SCHEDULES);
         let rank = |p: u64| (hash(&[seed, n, 9, p]), p);
         let mut hosts = Vec::new();
         let mut look_ahead = Vec::new();
@@ -199,7 +211,7 @@ impl Group {
             };
             look_ahead.push(numbers.look_ahead);
             hosts.push(match original {
-                true => Host::Original(Instance::new(&numbers), 0),
+                true => Host::Original(Instance::new(&original_numbers(&numbers)), 0),
                 false => {
                     let len = state::state_len(n as usize, numbers.look_ahead as usize);
                     let mut state = vec![7; len];

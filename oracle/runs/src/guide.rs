@@ -2,6 +2,7 @@
 
 use crate::oracle::{Call, MAX_EPOCH};
 use crate::random::Random;
+use crate::schedule::is_encrypted;
 use crate::state::{epoch_len, EPOCH, HEADER, PROPOSER};
 
 pub enum Plan {
@@ -48,13 +49,7 @@ impl View<'_> {
     }
 
     pub fn is_encrypted(&self, epoch: u64) -> bool {
-        let (a, b) = (self.0[8], self.0[9]);
-        match self.0[7] {
-            0 => true,
-            1 => false,
-            2 => epoch % a == 0,
-            _ => epoch % (a + b) <= a,
-        }
+        is_encrypted([self.0[7], self.0[8], self.0[9]], epoch)
     }
 
     /// Content, proposer and sender of a message that brings the epoch on, if one does.

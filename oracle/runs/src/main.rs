@@ -29,6 +29,7 @@ mod raw;
 mod record;
 #[cfg(feature = "engine")]
 mod rounds;
+mod schedule;
 mod state;
 mod table;
 mod tree;

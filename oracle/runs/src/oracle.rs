@@ -5,6 +5,7 @@ use std::panic::{catch_unwind, AssertUnwindSafe};
 use answers::{Answer, Refused};
 use original::driver::{Instance, Numbers, Outcome};
 
+use crate::schedule::{given, original_numbers};
 use crate::{state, table};
 
 pub const MAX_EPOCH: u64 = 1 << 62;
@@ -68,7 +69,8 @@ impl Oracle {
         if !in_range {
             return Ok(Err(1));
         }
-        let instance = catch_unwind(|| Instance::new(x)).map_err(|payload| text(&*payload))?;
+        let instance = catch_unwind(|| Instance::new(&original_numbers(x)));
+        let instance = instance.map_err(|payload| text(&*payload))?;
         Ok(Ok(Oracle { numbers: *x, instance, fault_count: 0, past: Vec::new() }))
     }
 
@@ -161,7 +163,7 @@ impl Oracle {
 
     pub fn state(&self) -> Result<Vec<u64>, Trouble> {
         let debug = self.debug();
-        let words = catch_unwind(|| state::words(&debug, self.fault_count));
+        let words = catch_unwind(|| state::words(&debug, given(&self.numbers), self.fault_count));
         words.map_err(|payload| text(&*payload))
     }
 
@@ -179,7 +181,7 @@ impl Oracle {
 
     /// A second instance in the same state.
     pub fn second(&self) -> Instance {
-        let mut instance = Instance::new(&self.numbers);
+        let mut instance = Instance::new(&original_numbers(&self.numbers));
         for past in &self.past {
             match past {
                 Past::Skip(target) => instance.skip(*target),

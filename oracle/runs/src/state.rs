@@ -1,5 +1,6 @@
 //! The words of the engine's state, made from the original's debug text.
 
+use crate::schedule::{as_original, Schedule, EVERY_NTH_EPOCH, NEVER, TICK_TOCK};
 use crate::tree::Tree;
 
 pub const HEADER: usize = 16;
@@ -15,8 +16,9 @@ pub fn state_len(n: usize, look_ahead: usize) -> usize {
     HEADER + (look_ahead + 1) * epoch_len(n)
 }
 
-/// The state words. The fault count is not the original's: 01 adds it.
-pub fn words(debug: &str, fault_count: u64) -> Vec<u64> {
+/// The state words. The fault count is not the original's: 01 adds it. The schedule is the one that
+/// create was given, and the original must have been built with what stands for it.
+pub fn words(debug: &str, schedule: Schedule, fault_count: u64) -> Vec<u64> {
     let badger = Tree::read(debug);
     let netinfo = badger.field("netinfo");
     let validators = netinfo.field("val_set");
@@ -37,19 +39,8 @@ pub fn words(debug: &str, fault_count: u64) -> Vec<u64> {
         "AllAtEnd" => 1,
         other => panic!("no strategy: {}", other),
     };
-    let schedule = params.field("encryption_schedule");
-    words[7] = match schedule.name() {
-        "Always" => 0,
-        "Never" => 1,
-        "EveryNthEpoch" => 2,
-        "TickTock" => 3,
-        other => panic!("no schedule: {}", other),
-    };
-    if words[7] >= 2 {
-        for (i, number) in schedule.list().iter().enumerate() {
-            words[8 + i] = number.number();
-        }
-    }
+    assert_eq!(schedule_in(params), as_original(schedule), "another schedule");
+    words[7..10].copy_from_slice(&schedule);
     words[10] = current;
     words[11] = badger.field("has_input").flag();
     words[12] = fault_count;
@@ -62,6 +53,19 @@ pub fn words(debug: &str, fault_count: u64) -> Vec<u64> {
         write_epoch(tree, n, &mut words[place..place + epoch_len(n)]);
     }
     words
+}
+
+/// The schedule that the original has.
+fn schedule_in(params: &Tree) -> Schedule {
+    let tree = params.field("encryption_schedule");
+    let numbers = |i: usize| tree.list()[i].number();
+    match tree.name() {
+        "Always" => [0, 0, 0],
+        "Never" => [NEVER, 0, 0],
+        "EveryNthEpoch" => [EVERY_NTH_EPOCH, numbers(0), 0],
+        "TickTock" => [TICK_TOCK, numbers(0), numbers(1)],
+        other => panic!("no schedule: {}", other),
+    }
 }
 
 fn write_epoch(tree: &Tree, n: usize, words: &mut [u64]) {
