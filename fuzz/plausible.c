@@ -54,7 +54,7 @@ void plausible_numbers(struct call *c, struct random *r)
         x[8] = PICK(r, 1, 2, 3, HANDLE_LIMIT);
     if (x[7] == 3) {
         x[8] = PICK(r, 0, 1, 2, HANDLE_LIMIT - 1);
-        x[9] = x[8] < 4 ? PICK(r, 1, 1, 2, 3) : below(r, 2);
+        x[9] = x[8] < 4 ? PICK(r, x[8] == 0, 1, 2, 3) : below(r, 2);
     }
 }
 

@@ -143,7 +143,7 @@ bool is_encrypted(const uint64_t *state, uint64_t epoch)
     case 2:
         return epoch % state[NUMBER_A] == 0;
     default:
-        return epoch % (state[NUMBER_A] + state[NUMBER_B]) <= state[NUMBER_A];
+        return epoch % (state[NUMBER_A] + state[NUMBER_B]) < state[NUMBER_A];
     }
 }
 

@@ -11,6 +11,7 @@ pub mod ReplyZero
 pub mod OneRun
 pub mod TwoRuns
 pub mod Demand3
+pub mod Periods
 pub mod Entries
 pub mod KindEight
 pub mod Demand2
