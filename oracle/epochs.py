@@ -31,7 +31,7 @@ MOST_NUMBERS = 256
 
 def encrypted(state, epoch):
     kind, a, b = state[7:10]
-    return int([lambda: True, lambda: False, lambda: epoch % a == 0, lambda: epoch % (a + b) <= a][kind]())
+    return int([lambda: True, lambda: False, lambda: epoch % a == 0, lambda: epoch % (a + b) < a][kind]())
 
 
 def epoch_words(state, epoch):
