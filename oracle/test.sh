@@ -8,7 +8,7 @@ cd "$here"
 oracle=target/release/oracle
 $oracle check cases/*.txt
 $oracle replay recorded/*.bin
-$oracle pairs recorded/clean*.bin recorded/ahead.bin
+$oracle pairs recorded/clean*.bin recorded/ahead*.bin
 while read -r file class seed runs calls; do
     $oracle generate "$class" "$seed" "$runs" "$calls" | cmp - "recorded/$file.bin"
 done < recorded/seeds.txt
