@@ -18,16 +18,8 @@ use crate::table::step_lists;
 use crate::world::{Asked, World};
 
 /// Kinds and numbers; TickTock with on 0 and with off 0 too.
-const SCHEDULES: [(u64, u64, u64); 8] = [
-    (0, 0, 0),
-    (1, 0, 0),
-    (2, 2, 0),
-    (3, 1, 1),
-    (3, 1, 2),
-    (3, 2, 3),
-    (3, 0, 2),
-    (3, 2, 0),
-];
+const SCHEDULES: [(u64, u64, u64); 8] =
+    [(0, 0, 0), (1, 0, 0), (2, 2, 0), (3, 1, 1), (3, 1, 2), (3, 2, 3), (3, 0, 2), (3, 2, 0)];
 
 /// What all hosts of a group must have in common: batches by epoch, and whose contributions did
 /// not read, in order.
