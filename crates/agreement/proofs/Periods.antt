@@ -2,7 +2,7 @@
 use Prim.Native.Nat.{ℕ, _+_, _-_, _*_, _≤_, _<_}
 use mathlib.Core.Path.{_≡_, fun-ext, ap, _∙_}
 use lib.Dec.{ltb}
-use Rattle.state.specs.Schedule.{scheduleOf, useOnEpoch}
+use Rattle.state.specs.Schedule.{scheduleOf}
 use Rattle.state.specs.State.{encryptedIn}
 use Rattle.state.proofs.Schedules.{first-on, as-every-nth}
 use Rattle.engine.specs.Create.{Numbers, created}

@@ -36,7 +36,7 @@ pub first-on : (on off k i : ℕ) → i < on + off → useOnEpoch (TickTock on o
 unfolding useOnEpoch
 first-on on off k i l = rw (mul-add-mod-self-right k (on + off) i, mod-eq-of-lt l)
 
--- the same by halves of a period: `on` epochs encrypted, then `off` plain
+-- the same by the two parts of a period: `on` epochs encrypted, then `off` plain
 pub tick-tock-on : (on off k i : ℕ) → i < on → useOnEpoch (TickTock on off) (k * (on + off) + i) ≡ true
 tick-tock-on on off k i l = first-on on off k i (omega arith) ∙ lt-ltb i on l
 
