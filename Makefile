@@ -110,6 +110,11 @@ check-interface: check-header $(ARCHIVE)
 	    if [ -n "$$more" ]; then echo "archive: not in the header's words: $$more"; exit 1; fi; \
 	    echo 'archive: no variables, nothing wanted but memcpy and memset'; fi
 
+# THE PRINTED SHEET of state lengths, figure by figure
+check-sheet: have-cc $(ARCHIVE)
+	@mkdir -p $(OUT)
+	@$(C99) tests/sheet.c $(ARCHIVE) -o $(OUT)/sheet && $(OUT)/sheet docs/STATE-LENGTHS.md
+
 # README'S SNIPPET, as a user has it: installed, compiled, run; its output is the block below it
 check-readme: have-cc $(ARCHIVE)
 	@mkdir -p $(OUT)
@@ -127,13 +132,14 @@ check-sources:
 	$(need-python)
 	rt fmt --check
 	python3 tools/fill.py --check
+	python3 tools/lengths.py --check
 	@if [ -f tools/documents.py ]; then echo python3 tools/documents.py; python3 tools/documents.py; fi
 
 # A bounded hostile run
 check-fuzz: have-cc $(ARCHIVE)
 	@if [ -f fuzz/Makefile ]; then $(MAKE) -C fuzz test LIB=$(abspath $(ARCHIVE)) OUT=$(abspath $(OUT)/fuzz) CC='$(CC)'; fi
 
-checks: have-all check-sources check-interface check-readme check-wake check-fuzz
+checks: have-all check-sources check-interface check-sheet check-readme check-wake check-fuzz
 
 # The last line of a passing run is that of `rt ci`
 test: checks
@@ -150,4 +156,4 @@ bench: have-cc $(ARCHIVE)
 clean:
 	rm -rf build
 
-.PHONY: help have-cc have-all lib install wake test checks check-wake check-header check-interface check-readme check-sources check-fuzz fuzz bench clean
+.PHONY: help have-cc have-all lib install wake test checks check-wake check-header check-interface check-sheet check-readme check-sources check-fuzz fuzz bench clean

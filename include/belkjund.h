@@ -60,7 +60,7 @@ extern "C" {
 #define HB_MAX_STEP_RECORDS 1553u /* no call's step has more: the header and 1552 entries */
 #define HB_STEP_WORDS (HB_RECORD_WORDS * HB_MAX_STEP_RECORDS) /* a step table of this length never gets reply 10 */
 
-/* The length of a state: it must be exactly this. As a macro for array bounds, as a function for numbers known at run time */
+/* The length of a state: it must be exactly this (all 256 are in docs/STATE-LENGTHS.md). As a macro for array bounds, as a function for numbers known at run time */
 #define HB_STATE_WORDS(n, look_ahead) (16u + ((look_ahead) + 1u) * (16u + (n) * (8u + (n))))
 /* The length that scratch must have at least */
 #define HB_SCRATCH_WORDS(n, look_ahead) HB_STATE_WORDS(n, look_ahead)

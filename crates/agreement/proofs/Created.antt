@@ -21,6 +21,9 @@ use Rattle.state.specs.State.{headerLength, inputAt, vacantAt, epochsAt, stateL
 use Rattle.engine.specs.Create.{Numbers, numberTests, numbersOk, createdHeader, created, createReply, createState}
 use Rattle.agreement.specs.Demand2.{CreateInRange}
 use Rattle.state.proofs.Bools.{test-holds}
+use Rattle.state.proofs.LengthTable.{lengths}
+use Rattle.state.proofs.Sheet.{entryOf, sheet-right}
+use Rattle.engine.proofs.CreateCode.{numbers-on-sheet}
 use Rattle.state.proofs.Window.{Shaped, header-first, words-long, place-is}
 use Rattle.state.proofs.RangesState.{ok-by}
 
@@ -43,21 +46,13 @@ create-passes c w = (there (numbersOk c) (eqb (length w) (stateLength (c .nodes)
     there true false e h = absurd (omega arith)
     there false t e h = absurd (omega arith)
 
--- ALL 256 LENGTHS, N 1 to 16 by F 0 to 15, in one test
-unfoldable pub allBelow : ℕ → (ℕ → Bool) → Bool
-allBelow zero is = true
-allBelow (suc m) is = is m && allBelow m is
-
-abbrev pub hosts : ℕ → ℕ → Numbers
-hosts n ahead = record { nodes = n; faulty = 0; ahead = ahead; own = 0; key = 1; strategy = 0; epoch = 0; schedule = 0; first = 0; second = 0 }
-
-unfoldable pub lengthAgrees : ℕ → ℕ → Bool
-lengthAgrees n ahead =
-    eqb (length (created (hosts n ahead))) (stateLength n ahead) && eqb (stateLength n ahead) (16 + (ahead + 1) * (16 + n * (8 + n)))
-
-pub lengths-256 : allBelow 16 (λ n. allBelow 16 (λ ahead. lengthAgrees (n + 1) ahead)) ≡ true
-unfolding allBelow lengthAgrees created epochsAt
-lengths-256 = refl
+-- "the engine shall take the length from that same table"
+pub create-by-sheet : (c : Numbers) (w : List ℕ) → (createReply c w ≡ 0) ↔ ((numbersOk c ≡ true) × (length w ≡ getD lengths (entryOf (c .nodes) (c .ahead)) 0))
+create-by-sheet c w =
+    (λ h. let p = create-passes c w .0 h in (p .0, p .1 ∙ sym (figure (p .0))), λ h. create-passes c w .1 (h .0, h .1 ∙ figure (h .0)))
+  where
+    figure : numbersOk c ≡ true → getD lengths (entryOf (c .nodes) (c .ahead)) 0 ≡ stateLength (c .nodes) (c .ahead)
+    figure ok = sheet-right _ _ (numbers-on-sheet c ok)
 
 -- THE RANGE RULES. Behind the numbers all words are 0
 pub created-zeros : (c : Numbers) (i : ℕ) → inputAt ≤ i → getD (created c) i 0 ≡ 0

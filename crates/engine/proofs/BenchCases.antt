@@ -337,6 +337,18 @@ case-12 =
     ∷ (create (numbers 3 1 0 0 1 0 0 1 0 0) 65 ⇒ 1 ∷ [])
     ∷ []
 
+-- the four corners of the sheet of state lengths: N 1 and 16, F 0 and 15. Two of them have one length
+abbrev pub case-12-further : Rows
+case-12-further =
+    (create (numbers 1 0 0 0 1 0 0 1 0 0) 41 ⇒ 0 ∷ [])
+    ∷ (create (numbers 1 0 0 0 1 0 0 1 0 0) 40 ⇒ 2 ∷ [])
+    ∷ (create (numbers 1 0 0 0 1 0 0 1 0 0) 42 ⇒ 2 ∷ [])
+    ∷ (create (numbers 1 0 15 0 1 0 0 1 0 0) 416 ⇒ 0 ∷ [])
+    ∷ (create (numbers 16 5 0 0 1 0 0 1 0 0) 416 ⇒ 0 ∷ [])
+    ∷ (create (numbers 16 5 15 0 1 0 0 1 0 0) 416 ⇒ 2 ∷ [])
+    ∷ (create (numbers 16 5 15 0 1 0 0 1 0 0) 6416 ⇒ 0 ∷ [])
+    ∷ []
+
 -- THE TABLE
 unfoldable pub bench : Cases
 bench =
@@ -359,6 +371,7 @@ bench =
     ∷ case [] case-10-further
     ∷ case [] case-11
     ∷ case [] case-12
+    ∷ case [] case-12-further
     ∷ []
 
 -- the definitions of the table itself
@@ -368,4 +381,4 @@ tablesOpened = tt
 
 pub bench-cases : AllHold apply bench
 unfolding tablesOpened bench
-bench-cases = (refl, (refl, (refl, (refl, (refl, (refl, (refl, (refl, (refl, (refl, (refl, (refl, (refl, (refl, (refl, (refl, (refl, (refl, (refl, tt)))))))))))))))))))
+bench-cases = (refl, (refl, (refl, (refl, (refl, (refl, (refl, (refl, (refl, (refl, (refl, (refl, (refl, (refl, (refl, (refl, (refl, (refl, (refl, (refl, tt))))))))))))))))))))

@@ -10,7 +10,8 @@ use borrow.Author.Tests.{eq-eqb, ne-eqb, leb-true, ltb-true}
 use Rattle.steps.specs.Table.{within}
 use Rattle.state.specs.Schedule.{scheduleOk, usedFirst, usedSecond}
 use Rattle.state.specs.State.{stateLength, allHold}
-use Rattle.state.proofs.Bools.{and-right, test-holds}
+use Rattle.state.proofs.Bools.{and-left, and-right, test-holds}
+use Rattle.state.proofs.Sheet.{OnSheet}
 use Rattle.state.proofs.Window.{header-first}
 use Rattle.engine.specs.Create.{Numbers, numberTests, numbersOk, createdHeader, created, createReply, createState}
 
@@ -19,10 +20,14 @@ module _ (c : Numbers) where
   number-test : numbersOk c ≡ true → (i : ℕ) → getD (numberTests c) i true ≡ true
   number-test h i = test-holds (numberTests c) h i
 
-  -- N and look-ahead have their limits, so that the state's length can be computed
-  pub numbers-few : numbersOk c ≡ true → (c .nodes ≤ 16) × (c .ahead ≤ 15)
+  -- N and look-ahead have a figure on the sheet of state lengths
+  pub numbers-on-sheet : numbersOk c ≡ true → OnSheet (c .nodes) (c .ahead)
   unfolding numberTests
-  numbers-few h = (leb-true _ _ (and-right (leb 1 (c .nodes)) _ (number-test h 0)), leb-true _ _ (number-test h 2))
+  numbers-on-sheet h = (
+    leb-true _ _ (and-left (leb 1 (c .nodes)) _ (number-test h 0)),
+    leb-true _ _ (and-right (leb 1 (c .nodes)) _ (number-test h 0)),
+    leb-true _ _ (number-test h 2),
+  )
 
   -- 3 × f is not computed where f alone is above N's limit
   pub numbers-off : 16 < c .faulty → false ≡ numbersOk c

@@ -31,6 +31,7 @@ use epochwords::words::STATUS_AT;
 use epochwords::words::STATUS_VACANT;
 use libc::STDIN_FILENO;
 use lines::line_end;
+use lines::line_ends;
 use lines::number;
 use lines::numbers;
 use lines::say;
@@ -333,10 +334,6 @@ fn run_in(
         batch,
         step: done,
     }
-}
-
-fn line_ends() {
-    say(b"\n");
 }
 
 // The reply and the first m words of the step table.

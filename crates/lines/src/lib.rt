@@ -7,6 +7,10 @@ pub fn say(text: &[u8]) {
     io::write_all(STDOUT_FILENO, text);
 }
 
+pub fn line_ends() {
+    say(b"\n");
+}
+
 pub fn number(n: u64) {
     say(b" ");
     io::print_decimal(STDOUT_FILENO, n);

@@ -31,6 +31,9 @@ const MODULUS: u64 = 4_294_967_291;
 fn state_length(n: u64, ahead: u64) -> usize
     ensures { λ r. ⌜ r ≤ 6416 ⌝ }
 {
+    if n < 1 {
+        return 16;
+    }
     if 16 < n {
         return 16;
     }

@@ -21,6 +21,8 @@ use Rattle.state.specs.State.{headerLength, nodesAt, faultyAt, aheadAt, 
 use Rattle.state.specs.Shape.{StateWords, Divides}
 use Rattle.state.proofs.Bools.{and-left, and-right, test-holds}
 use Rattle.state.proofs.Schedules.{ok-divides}
+use Rattle.state.proofs.LengthTable.{lengths}
+use Rattle.state.proofs.Sheet.{OnSheet, entryOf, sheet-right}
 use Rattle.state.proofs.Window.{header-first}
 use Rattle.state.proofs.RangesState.{test, shaped, words-in-range}
 
@@ -132,8 +134,20 @@ module _ (w : List ℕ) where
   header-words e l =
       record { few = header-sized w e .few; near = header-sized w e .near; epoch = leb-true _ _ (test-holds (headerTests w) e epochAt); long = l }
 
+  -- N and F have a figure on the sheet
+  pub header-on-sheet : headerInRange w ≡ true → OnSheet (nodes w) (ahead w)
+  header-on-sheet e = (omega (arith, header-sized w e .faulty), header-sized w e .few, header-sized w e .near)
+
   -- WHAT A STATE IN RANGE GIVES
   module _ (ok : stateOk w ≡ true) where
+    pub ok-on-sheet : OnSheet (nodes w) (ahead w)
+    unfolding stateOk
+    ok-on-sheet = header-on-sheet (and-left _ _ (and-left _ _ ok))
+
+    -- "the engine shall take the length from that same table"
+    pub ok-by-sheet : length w ≡ getD lengths (entryOf (nodes w) (ahead w)) 0
+    ok-by-sheet = long-of ok ∙ sym (sheet-right _ _ ok-on-sheet)
+
     pub ok-words : StateWords w
     unfolding stateOk
     ok-words = header-words (and-left _ _ (and-left _ _ ok)) (long-of ok)

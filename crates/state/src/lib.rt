@@ -1,4 +1,5 @@
 // The words of the engine's state, after params.rs and the fields of `HoneyBadger` in honey_badger.rs.
+pub mod lengths;
 pub mod range;
 pub mod schedule;
 pub mod words;

@@ -5,6 +5,7 @@ ghost use lib.ListN.{length};
 ghost use Rattle.steps.specs.Numbers.{nodeLimit, aheadLimit};
 ghost use Rattle.state.specs.State.{nodes, ahead, stateLength, scratchLength, headerLength, headerInRange, epochsAt, epochsInRange, stateOk};
 ghost use Rattle.state.specs.Shape.{StateWords};
+use crate::lengths::STATE_LENGTHS;
 use crate::schedule::schedule_ok;
 use crate::schedule::used_first;
 use crate::schedule::used_second;
@@ -32,18 +33,17 @@ use steps::numbers::FAULT_LIMIT;
 use steps::numbers::LAST_EPOCH;
 use steps::numbers::NODE_LIMIT;
 
-// How many words a state has.
+// How many words a state has, read off the sheet.
 pub fn state_length(n: usize, ahead: usize) -> usize
-    requires { ⌜ (n ≤ nodeLimit) × (ahead ≤ aheadLimit) ⌝ }
+    requires { ⌜ (1 ≤ n) × (n ≤ nodeLimit) × (ahead ≤ aheadLimit) ⌝ }
     ensures { λ r. ⌜ r ≡ stateLength n ahead ⌝ }
 {
-    let length = epoch_length(n);
-    epochs_at(n) + (ahead + 1) * length
+    STATE_LENGTHS[(n - 1) * 16 + ahead]
 }
 
 // How many words of scratch a call wants.
 pub fn scratch_length(n: usize, ahead: usize) -> usize
-    requires { ⌜ (n ≤ nodeLimit) × (ahead ≤ aheadLimit) ⌝ }
+    requires { ⌜ (1 ≤ n) × (n ≤ nodeLimit) × (ahead ≤ aheadLimit) ⌝ }
     ensures { λ r. ⌜ r ≡ scratchLength n ahead ⌝ }
 {
     state_length(n, ahead)

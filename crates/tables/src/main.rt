@@ -15,6 +15,7 @@ use decryption::Outcome;
 use decryption::ThresholdDecrypt;
 use libc::STDIN_FILENO;
 use lines::line_end;
+use lines::line_ends;
 use lines::number;
 use lines::numbers;
 use lines::say;
@@ -26,10 +27,6 @@ use steps::step::Step;
 
 fn line_begins() {
     say(b"  step");
-}
-
-fn line_ends() {
-    say(b"\n");
 }
 
 // The words of a step table, a line.

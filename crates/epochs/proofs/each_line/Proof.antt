@@ -15,39 +15,39 @@ Inv-loop text before₀ at₀ before at = at ≤ length text
 abbrev μ-loop : tie.MeasureT-loop
 μ-loop text before₀ at₀ before at = length text - at
 
--- src/main.rt:573:5
+-- src/main.rt:570:5
 loop-holds : tie.Need-loop-holds Inv-loop μ-loop
 loop-holds c = search needs
 
--- src/main.rt:574:13
+-- src/main.rt:571:13
 line-end-requires : tie.Need-line-end-requires Inv-loop μ-loop
 line-end-requires c κs = search needs
 
--- src/main.rt:575:23
+-- src/main.rt:572:23
 sub-line : tie.Need-sub-line Inv-loop μ-loop
 sub-line c = search needs
 
--- src/main.rt:575:23
+-- src/main.rt:572:23
 part-line-start : tie.Need-part-line-start Inv-loop μ-loop
 part-line-start c = search needs
 
--- src/main.rt:575:23
+-- src/main.rt:572:23
 part-line-end : tie.Need-part-line-end Inv-loop μ-loop
 part-line-end c = search needs
 
--- src/main.rt:575:9
+-- src/main.rt:572:9
 line-requires : tie.Need-line-requires Inv-loop μ-loop
 line-requires c κs = search needs
 
--- src/main.rt:573:5
+-- src/main.rt:570:5
 loop-less : tie.Need-loop-less Inv-loop μ-loop
 loop-less c = search needs
 
--- src/main.rt:573:5
+-- src/main.rt:570:5
 loop-again : tie.Need-loop-again Inv-loop μ-loop
 loop-again c = search needs
 
--- src/main.rt:567:1
+-- src/main.rt:564:1
 returns : tie.Need-returns Inv-loop μ-loop
 returns c = search needs
 

@@ -8,19 +8,19 @@ use Rattle.epochs.proofs.epoch_length.Tie as tie
 use Rattle.epochs.proofs.epoch_length.Reads as reads
 use Rattle.epochs.proofs.epoch_length.Lts as lts
 
--- src/main.rt:303:23
+-- src/main.rt:304:23
 add-result : tie.Need-add-result
 add-result c = search needs
 
--- src/main.rt:303:18
+-- src/main.rt:304:18
 mul-result : tie.Need-mul-result
 mul-result c = omega (arith, mul-le-mul-right (8 + c .args .n) (c .pre), mul-le-mul-left 7 (c .pre))
 
--- src/main.rt:303:5
+-- src/main.rt:304:5
 add-result-2 : tie.Need-add-result-2
 add-result-2 c = omega (arith, mul-le-mul-right (8 + c .args .n) (c .pre), mul-le-mul-left 7 (c .pre))
 
--- src/main.rt:299:1
+-- src/main.rt:300:1
 returns : tie.Need-returns
 returns c = omega (arith, mul-le-mul-right (8 + c .args .n) (c .pre), mul-le-mul-left 7 (c .pre))
 

@@ -12,55 +12,55 @@ Inv-loop given m words₀ i₀ words i = i ≤ 257
 abbrev μ-loop : tie.MeasureT-loop
 μ-loop given m words₀ i₀ words i = 257 - i
 
--- src/main.rt:499:5
+-- src/main.rt:496:5
 loop-holds : tie.Need-loop-holds Inv-loop μ-loop
 loop-holds c = search needs
 
--- src/main.rt:499:11
+-- src/main.rt:496:11
 add-loop : tie.Need-add-loop Inv-loop μ-loop
 add-loop c = search needs
 
--- src/main.rt:500:18
+-- src/main.rt:497:18
 mul-at : tie.Need-mul-at Inv-loop μ-loop
 mul-at c = search needs
 
--- src/main.rt:500:18
+-- src/main.rt:497:18
 element-copy-out-at : tie.Need-element-copy-out-at Inv-loop μ-loop
 element-copy-out-at c = search needs
 
--- src/main.rt:502:40
+-- src/main.rt:499:40
 add-words : tie.Need-add-words Inv-loop μ-loop
 add-words c = search needs
 
--- src/main.rt:502:34
+-- src/main.rt:499:34
 mul-words : tie.Need-mul-words Inv-loop μ-loop
 mul-words c = search needs
 
--- src/main.rt:502:34
+-- src/main.rt:499:34
 element-copy-out-words : tie.Need-element-copy-out-words Inv-loop μ-loop
 element-copy-out-words c = search needs
 
--- src/main.rt:502:13
+-- src/main.rt:499:13
 mul-words-2 : tie.Need-mul-words-2 Inv-loop μ-loop
 mul-words-2 c = search needs
 
--- src/main.rt:502:13
+-- src/main.rt:499:13
 array-write-words : tie.Need-array-write-words Inv-loop μ-loop
 array-write-words c = search needs
 
--- src/main.rt:504:9
+-- src/main.rt:501:9
 add-i : tie.Need-add-i Inv-loop μ-loop
 add-i c = search needs
 
--- src/main.rt:499:5
+-- src/main.rt:496:5
 loop-less : tie.Need-loop-less Inv-loop μ-loop
 loop-less c = search needs
 
--- src/main.rt:499:5
+-- src/main.rt:496:5
 loop-again : tie.Need-loop-again Inv-loop μ-loop
 loop-again c = search needs
 
--- src/main.rt:494:1
+-- src/main.rt:491:1
 returns : tie.Need-returns Inv-loop μ-loop
 returns c = search needs
 

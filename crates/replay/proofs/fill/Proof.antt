@@ -14,35 +14,35 @@ Inv-loop words₀ i₀ words i = (length words ≡ length words₀) × (i ≤ le
 abbrev μ-loop : tie.MeasureT-loop
 μ-loop words₀ i₀ words i = length words₀ - i
 
--- src/main.rt:60:5
+-- src/main.rt:63:5
 loop-holds : tie.Need-loop-holds Inv-loop μ-loop
 loop-holds c = search needs
 
--- src/main.rt:61:9
+-- src/main.rt:64:9
 mul-words : tie.Need-mul-words Inv-loop μ-loop
 mul-words c = search needs
 
--- src/main.rt:61:9
+-- src/main.rt:64:9
 slice-write-words : tie.Need-slice-write-words Inv-loop μ-loop
 slice-write-words c = search needs
 
--- src/main.rt:62:9
+-- src/main.rt:65:9
 add-i : tie.Need-add-i Inv-loop μ-loop
 add-i c = search needs
 
--- src/main.rt:60:5
+-- src/main.rt:63:5
 loop-less : tie.Need-loop-less Inv-loop μ-loop
 loop-less c = search needs
 
--- src/main.rt:60:5
+-- src/main.rt:63:5
 loop-again : tie.Need-loop-again Inv-loop μ-loop
 loop-again c = search needs
 
--- src/main.rt:58:1
+-- src/main.rt:61:1
 same-length : tie.Need-same-length Inv-loop μ-loop
 same-length c = search needs
 
--- src/main.rt:58:1
+-- src/main.rt:61:1
 returns : tie.Need-returns Inv-loop μ-loop
 returns c = search needs
 

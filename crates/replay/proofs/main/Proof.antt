@@ -18,59 +18,59 @@ Inv-loop text₀ state₀ scratch₀ step₀ size₀ left₀ text state scratch 
 abbrev μ-loop : tie.MeasureT-loop
 μ-loop text₀ state₀ scratch₀ step₀ size₀ left₀ text state scratch step size left = left
 
--- src/main.rt:315:5
+-- src/main.rt:318:5
 loop-holds : tie.Need-loop-holds Inv-loop μ-loop
 loop-holds c = search needs
 
--- src/main.rt:316:27
+-- src/main.rt:319:27
 slice-aggregate-read-line : tie.Need-slice-aggregate-read-line Inv-loop μ-loop
 slice-aggregate-read-line c = search needs
 
--- src/main.rt:316:13
+-- src/main.rt:319:13
 read-line-requires : tie.Need-read-line-requires Inv-loop μ-loop
 read-line-requires c κs = search needs
 
--- src/main.rt:318:13
+-- src/main.rt:321:13
 returns : tie.Need-returns Inv-loop μ-loop
 returns c = search needs
 
--- src/main.rt:320:21
+-- src/main.rt:323:21
 array-share-prefix-text : tie.Need-array-share-prefix-text Inv-loop μ-loop
 array-share-prefix-text c = search needs
 
--- src/main.rt:320:21
+-- src/main.rt:323:21
 slice-aggregate-line : tie.Need-slice-aggregate-line Inv-loop μ-loop
 slice-aggregate-line c = sym (length-take-le (c .before .before .before .read-line .result) (c .before .before .before .read-line .last .0) (omega (arith, c .before .before .before .read-line .ensures, c .before .before .before .read-line .kept .0)))
 
--- src/main.rt:320:33
+-- src/main.rt:323:33
 slice-aggregate-line-2 : tie.Need-slice-aggregate-line-2 Inv-loop μ-loop
 slice-aggregate-line-2 c = search needs
 
--- src/main.rt:320:51
+-- src/main.rt:323:51
 slice-aggregate-line-3 : tie.Need-slice-aggregate-line-3 Inv-loop μ-loop
 slice-aggregate-line-3 c = search needs
 
--- src/main.rt:320:65
+-- src/main.rt:323:65
 slice-aggregate-line-4 : tie.Need-slice-aggregate-line-4 Inv-loop μ-loop
 slice-aggregate-line-4 c = search needs
 
--- src/main.rt:320:9
+-- src/main.rt:323:9
 line-requires : tie.Need-line-requires Inv-loop μ-loop
 line-requires c κs = search needs
 
--- src/main.rt:321:9
+-- src/main.rt:324:9
 sub-left : tie.Need-sub-left Inv-loop μ-loop
 sub-left c = search needs
 
--- src/main.rt:315:5
+-- src/main.rt:318:5
 loop-less : tie.Need-loop-less Inv-loop μ-loop
 loop-less c = search needs
 
--- src/main.rt:315:5
+-- src/main.rt:318:5
 loop-again : tie.Need-loop-again Inv-loop μ-loop
 loop-again c = search needs
 
--- src/main.rt:308:1
+-- src/main.rt:311:1
 returns-2 : tie.Need-returns-2 Inv-loop μ-loop
 returns-2 c = search needs
 

@@ -15,63 +15,63 @@ Inv-loop text₀ byte₀ n₀ text byte n = (length byte ≡ 1) × (length text 
 abbrev μ-loop : tie.MeasureT-loop
 μ-loop text₀ byte₀ n₀ text byte n = length text₀ - n
 
--- src/main.rt:294:5
+-- src/main.rt:297:5
 loop-holds : tie.Need-loop-holds Inv-loop μ-loop
 loop-holds c = search needs
 
--- src/main.rt:295:40
+-- src/main.rt:298:40
 slice-aggregate-read-full : tie.Need-slice-aggregate-read-full Inv-loop μ-loop
 slice-aggregate-read-full c = search needs
 
--- src/main.rt:295:12
+-- src/main.rt:298:12
 read-full-requires : tie.Need-read-full-requires Inv-loop μ-loop
 read-full-requires c κs = search needs
 
--- src/main.rt:296:13
+-- src/main.rt:299:13
 same-length : tie.Need-same-length Inv-loop μ-loop
 same-length c = search needs
 
--- src/main.rt:296:13
+-- src/main.rt:299:13
 returns : tie.Need-returns Inv-loop μ-loop
 returns c = search needs
 
--- src/main.rt:298:19
+-- src/main.rt:301:19
 array-read-text : tie.Need-array-read-text Inv-loop μ-loop
 array-read-text c = search needs
 
--- src/main.rt:298:9
+-- src/main.rt:301:9
 slice-write-text : tie.Need-slice-write-text Inv-loop μ-loop
 slice-write-text c = search needs
 
--- src/main.rt:299:9
+-- src/main.rt:302:9
 add-n : tie.Need-add-n Inv-loop μ-loop
 add-n c = search needs
 
--- src/main.rt:300:12
+-- src/main.rt:303:12
 array-read-if2 : tie.Need-array-read-if2 Inv-loop μ-loop
 array-read-if2 c = search needs
 
--- src/main.rt:301:13
+-- src/main.rt:304:13
 same-length-2 : tie.Need-same-length-2 Inv-loop μ-loop
 same-length-2 c = search needs
 
--- src/main.rt:301:13
+-- src/main.rt:304:13
 returns-2 : tie.Need-returns-2 Inv-loop μ-loop
 returns-2 c = search needs
 
--- src/main.rt:294:5
+-- src/main.rt:297:5
 loop-less : tie.Need-loop-less Inv-loop μ-loop
 loop-less c = search needs
 
--- src/main.rt:294:5
+-- src/main.rt:297:5
 loop-again : tie.Need-loop-again Inv-loop μ-loop
 loop-again c = search needs
 
--- src/main.rt:289:1
+-- src/main.rt:292:1
 same-length-3 : tie.Need-same-length-3 Inv-loop μ-loop
 same-length-3 c = search needs
 
--- src/main.rt:289:1
+-- src/main.rt:292:1
 returns-3 : tie.Need-returns-3 Inv-loop μ-loop
 returns-3 c = search needs
 

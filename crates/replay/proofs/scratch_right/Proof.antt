@@ -14,39 +14,39 @@ Inv-loop scratch size right₀ right = right ≤ length scratch
 abbrev μ-loop : tie.MeasureT-loop
 μ-loop scratch size right₀ right = length scratch - right
 
--- src/main.rt:77:5
+-- src/main.rt:80:5
 loop-holds : tie.Need-loop-holds Inv-loop μ-loop
 loop-holds c = search needs
 
--- src/main.rt:78:12
+-- src/main.rt:81:12
 mul-if1 : tie.Need-mul-if1 Inv-loop μ-loop
 mul-if1 c = search needs
 
--- src/main.rt:78:12
+-- src/main.rt:81:12
 shared-slice-read-if1 : tie.Need-shared-slice-read-if1 Inv-loop μ-loop
 shared-slice-read-if1 c = search needs
 
--- src/main.rt:78:30
+-- src/main.rt:81:30
 scratch-wanted-requires : tie.Need-scratch-wanted-requires Inv-loop μ-loop
 scratch-wanted-requires c κs = search needs
 
--- src/main.rt:79:13
+-- src/main.rt:82:13
 returns : tie.Need-returns Inv-loop μ-loop
 returns c = search needs
 
--- src/main.rt:81:9
+-- src/main.rt:84:9
 add-right : tie.Need-add-right Inv-loop μ-loop
 add-right c = search needs
 
--- src/main.rt:77:5
+-- src/main.rt:80:5
 loop-less : tie.Need-loop-less Inv-loop μ-loop
 loop-less c = search needs
 
--- src/main.rt:77:5
+-- src/main.rt:80:5
 loop-again : tie.Need-loop-again Inv-loop μ-loop
 loop-again c = search needs
 
--- src/main.rt:75:1
+-- src/main.rt:78:1
 returns-2 : tie.Need-returns-2 Inv-loop μ-loop
 returns-2 c = search needs
 

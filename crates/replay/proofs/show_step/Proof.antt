@@ -13,35 +13,35 @@ Inv-loop step end i₀ i = i ≤ end
 abbrev μ-loop : tie.MeasureT-loop
 μ-loop step end i₀ i = end - i
 
--- src/main.rt:130:5
+-- src/main.rt:133:5
 loop-holds : tie.Need-loop-holds Inv-loop μ-loop
 loop-holds c = search needs
 
--- src/main.rt:131:16
+-- src/main.rt:134:16
 mul-number : tie.Need-mul-number Inv-loop μ-loop
 mul-number c = search needs
 
--- src/main.rt:131:16
+-- src/main.rt:134:16
 shared-slice-read-number : tie.Need-shared-slice-read-number Inv-loop μ-loop
 shared-slice-read-number c = search needs
 
--- src/main.rt:131:9
+-- src/main.rt:134:9
 number-requires : tie.Need-number-requires Inv-loop μ-loop
 number-requires c κs = search needs
 
--- src/main.rt:132:9
+-- src/main.rt:135:9
 add-i : tie.Need-add-i Inv-loop μ-loop
 add-i c = search needs
 
--- src/main.rt:130:5
+-- src/main.rt:133:5
 loop-less : tie.Need-loop-less Inv-loop μ-loop
 loop-less c = search needs
 
--- src/main.rt:130:5
+-- src/main.rt:133:5
 loop-again : tie.Need-loop-again Inv-loop μ-loop
 loop-again c = search needs
 
--- src/main.rt:126:1
+-- src/main.rt:129:1
 returns : tie.Need-returns Inv-loop μ-loop
 returns c = search needs
 

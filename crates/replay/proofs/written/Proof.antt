@@ -14,35 +14,35 @@ Inv-loop step end₀ i₀ end i = (end ≤ i) × (i ≤ length step)
 abbrev μ-loop : tie.MeasureT-loop
 μ-loop step end₀ i₀ end i = length step - i
 
--- src/main.rt:103:5
+-- src/main.rt:106:5
 loop-holds : tie.Need-loop-holds Inv-loop μ-loop
 loop-holds c = search needs
 
--- src/main.rt:104:33
+-- src/main.rt:107:33
 mul-end-after : tie.Need-mul-end-after Inv-loop μ-loop
 mul-end-after c = search needs
 
--- src/main.rt:104:33
+-- src/main.rt:107:33
 shared-slice-read-end-after : tie.Need-shared-slice-read-end-after Inv-loop μ-loop
 shared-slice-read-end-after c = search needs
 
--- src/main.rt:104:9
+-- src/main.rt:107:9
 end-after-requires : tie.Need-end-after-requires Inv-loop μ-loop
 end-after-requires c κs = search needs
 
--- src/main.rt:105:9
+-- src/main.rt:108:9
 add-i : tie.Need-add-i Inv-loop μ-loop
 add-i c = search needs
 
--- src/main.rt:103:5
+-- src/main.rt:106:5
 loop-less : tie.Need-loop-less Inv-loop μ-loop
 loop-less c = search needs
 
--- src/main.rt:103:5
+-- src/main.rt:106:5
 loop-again : tie.Need-loop-again Inv-loop μ-loop
 loop-again c = search needs
 
--- src/main.rt:98:1
+-- src/main.rt:101:1
 returns : tie.Need-returns Inv-loop μ-loop
 returns c = search needs
 

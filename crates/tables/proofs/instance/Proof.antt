@@ -12,47 +12,47 @@ Inv-loop words shares₀ i₀ shares i = i ≤ 16
 abbrev μ-loop : tie.MeasureT-loop
 μ-loop words shares₀ i₀ shares i = 16 - i
 
--- src/main.rt:240:5
+-- src/main.rt:237:5
 loop-holds : tie.Need-loop-holds Inv-loop μ-loop
 loop-holds c = search needs
 
--- src/main.rt:241:27
+-- src/main.rt:238:27
 add-shares : tie.Need-add-shares Inv-loop μ-loop
 add-shares c = search needs
 
--- src/main.rt:241:21
+-- src/main.rt:238:21
 mul-shares : tie.Need-mul-shares Inv-loop μ-loop
 mul-shares c = search needs
 
--- src/main.rt:241:21
+-- src/main.rt:238:21
 element-copy-out-shares : tie.Need-element-copy-out-shares Inv-loop μ-loop
 element-copy-out-shares c = search needs
 
--- src/main.rt:241:9
+-- src/main.rt:238:9
 mul-shares-2 : tie.Need-mul-shares-2 Inv-loop μ-loop
 mul-shares-2 c = search needs
 
--- src/main.rt:241:9
+-- src/main.rt:238:9
 array-write-shares : tie.Need-array-write-shares Inv-loop μ-loop
 array-write-shares c = search needs
 
--- src/main.rt:242:9
+-- src/main.rt:239:9
 add-i : tie.Need-add-i Inv-loop μ-loop
 add-i c = search needs
 
--- src/main.rt:240:5
+-- src/main.rt:237:5
 loop-less : tie.Need-loop-less Inv-loop μ-loop
 loop-less c = search needs
 
--- src/main.rt:240:5
+-- src/main.rt:237:5
 loop-again : tie.Need-loop-again Inv-loop μ-loop
 loop-again c = search needs
 
--- src/main.rt:245:21
+-- src/main.rt:242:21
 element-copy-out-t15 : tie.Need-element-copy-out-t15 Inv-loop μ-loop
 element-copy-out-t15 c = search needs
 
--- src/main.rt:237:1
+-- src/main.rt:234:1
 returns : tie.Need-returns Inv-loop μ-loop
 returns c = search needs
 

@@ -16,43 +16,43 @@ Inv-loop text td₀ at₀ td at = at ≤ length text
 abbrev μ-loop : tie.MeasureT-loop
 μ-loop text td₀ at₀ td at = length text - at
 
--- src/main.rt:293:9
+-- src/main.rt:290:9
 new-requires : tie.Need-new-requires Inv-loop μ-loop
 new-requires c κs = search needs
 
--- src/main.rt:295:5
+-- src/main.rt:292:5
 loop-holds : tie.Need-loop-holds Inv-loop μ-loop
 loop-holds c = search needs
 
--- src/main.rt:296:13
+-- src/main.rt:293:13
 line-end-requires : tie.Need-line-end-requires Inv-loop μ-loop
 line-end-requires c κs = search needs
 
--- src/main.rt:297:19
+-- src/main.rt:294:19
 sub-line : tie.Need-sub-line Inv-loop μ-loop
 sub-line c = search needs
 
--- src/main.rt:297:19
+-- src/main.rt:294:19
 part-line-start : tie.Need-part-line-start Inv-loop μ-loop
 part-line-start c = search needs
 
--- src/main.rt:297:19
+-- src/main.rt:294:19
 part-line-end : tie.Need-part-line-end Inv-loop μ-loop
 part-line-end c = search needs
 
--- src/main.rt:297:9
+-- src/main.rt:294:9
 line-requires : tie.Need-line-requires Inv-loop μ-loop
 line-requires c κs = search needs
 
--- src/main.rt:295:5
+-- src/main.rt:292:5
 loop-less : tie.Need-loop-less Inv-loop μ-loop
 loop-less c = search needs
 
--- src/main.rt:295:5
+-- src/main.rt:292:5
 loop-again : tie.Need-loop-again Inv-loop μ-loop
 loop-again c = search needs
 
--- src/main.rt:292:1
+-- src/main.rt:289:1
 returns : tie.Need-returns Inv-loop μ-loop
 returns c = search needs
 

@@ -5,9 +5,9 @@ use Rattle.tables.proofs.show.Statement.{statement}
 use Rattle.tables.proofs.show.Tie as tie
 use Rattle.tables.proofs.show.Reads as reads
 use Rattle.tables.proofs.show.Lts as lts
+use Rattle.lines.proofs.line_ends.Reads as line-ends-reads
 use Rattle.lines.proofs.number.Reads as number-reads
 use Rattle.tables.proofs.line_begins.Reads as line-begins-reads
-use Rattle.tables.proofs.line_ends.Reads as line-ends-reads
 
 abbrev Inv-loop : tie.InvT-loop
 Inv-loop words i₀ i = i ≤ 20
@@ -15,43 +15,43 @@ Inv-loop words i₀ i = i ≤ 20
 abbrev μ-loop : tie.MeasureT-loop
 μ-loop words i₀ i = 20 - i
 
--- src/main.rt:37:5
+-- src/main.rt:34:5
 line-begins-requires : tie.Need-line-begins-requires Inv-loop μ-loop
 line-begins-requires c κs = search needs
 
--- src/main.rt:39:5
+-- src/main.rt:36:5
 loop-holds : tie.Need-loop-holds Inv-loop μ-loop
 loop-holds c = search needs
 
--- src/main.rt:40:16
+-- src/main.rt:37:16
 mul-number : tie.Need-mul-number Inv-loop μ-loop
 mul-number c = search needs
 
--- src/main.rt:40:16
+-- src/main.rt:37:16
 element-copy-out-number : tie.Need-element-copy-out-number Inv-loop μ-loop
 element-copy-out-number c = search needs
 
--- src/main.rt:40:9
+-- src/main.rt:37:9
 number-requires : tie.Need-number-requires Inv-loop μ-loop
 number-requires c κs = search needs
 
--- src/main.rt:41:9
+-- src/main.rt:38:9
 add-i : tie.Need-add-i Inv-loop μ-loop
 add-i c = search needs
 
--- src/main.rt:39:5
+-- src/main.rt:36:5
 loop-less : tie.Need-loop-less Inv-loop μ-loop
 loop-less c = search needs
 
--- src/main.rt:39:5
+-- src/main.rt:36:5
 loop-again : tie.Need-loop-again Inv-loop μ-loop
 loop-again c = search needs
 
--- src/main.rt:43:5
+-- src/main.rt:40:5
 line-ends-requires : tie.Need-line-ends-requires Inv-loop μ-loop
 line-ends-requires c κs = search needs
 
--- src/main.rt:36:1
+-- src/main.rt:33:1
 returns : tie.Need-returns Inv-loop μ-loop
 returns c = search needs
 

@@ -4,15 +4,15 @@ use native.Mathlib.Omega.{arith}
 use borrow.Author.Needs.{needs}
 use borrow.Author.Tests.{not-true, not-false}
 use Rattle.state.proofs.WordsCode.{header-inside}
-use Rattle.state.proofs.RangeCode.{ok-words}
+use Rattle.state.proofs.RangeCode.{ok-words, ok-on-sheet}
 use Rattle.calls.proofs.ChecksApart.{first-three, first-four, first-five, first-none}
 use Rattle.calls.proofs.checks.first_checks.Statement.{statement}
 use Rattle.calls.proofs.checks.first_checks.Tie as tie
 use Rattle.calls.proofs.checks.first_checks.Reads as reads
 use Rattle.calls.proofs.checks.first_checks.Lts as lts
+use Rattle.answers.proofs.table_ok.Reads as table-ok-reads
 use Rattle.state.proofs.range.scratch_length.Reads as scratch-length-reads
 use Rattle.state.proofs.range.state_ok.Reads as state-ok-reads
-use Rattle.answers.proofs.table_ok.Reads as table-ok-reads
 
 -- src/checks.rt:34:9
 state-ok-requires : tie.Need-state-ok-requires
@@ -32,7 +32,7 @@ shared-slice-read-scratch-length c = omega (arith, header-inside (c .before .bef
 
 -- src/checks.rt:38:9
 scratch-length-requires : tie.Need-scratch-length-requires
-scratch-length-requires c κs = (ok-words (c .before .before .before .before .before .before .args .state .now) (sym (c .before .before .before .state-ok .ensures) ∙ not-false _ (c .before .before .if1 .left)) .few, ok-words (c .before .before .before .before .before .before .args .state .now) (sym (c .before .before .before .state-ok .ensures) ∙ not-false _ (c .before .before .if1 .left)) .near)
+scratch-length-requires c κs = ok-on-sheet (c .before .before .before .before .before .before .args .state .now) (sym (c .before .before .before .state-ok .ensures) ∙ not-false _ (c .before .before .if1 .left))
 
 -- src/checks.rt:40:9
 returns-2 : tie.Need-returns-2

@@ -3,7 +3,7 @@ use mathlib.Core.Path.{sym, _∙_}
 use native.Mathlib.Omega.{arith}
 use borrow.Author.Needs.{needs}
 use borrow.Author.Tests.{not-true, not-false}
-use Rattle.state.proofs.RangeCode.{header-sized, header-words, ok-short, ok-header, ok-length, ok-epochs}
+use Rattle.state.proofs.RangeCode.{header-on-sheet, header-words, ok-short, ok-header, ok-length, ok-epochs}
 use Rattle.state.proofs.range.state_ok.Statement.{statement}
 use Rattle.state.proofs.range.state_ok.Tie as tie
 use Rattle.state.proofs.range.state_ok.Reads as reads
@@ -34,7 +34,7 @@ shared-slice-read-ahead c = search needs
 
 -- src/range.rt:118:23
 state-length-requires : tie.Need-state-length-requires
-state-length-requires c κs = (header-sized (c .before .before .before .before .before .before .args .state .now) (sym (c .before .before .before .header-in-range .ensures) ∙ not-false _ (c .before .before .if2 .left)) .few, header-sized (c .before .before .before .before .before .before .args .state .now) (sym (c .before .before .before .header-in-range .ensures) ∙ not-false _ (c .before .before .if2 .left)) .near)
+state-length-requires c κs = header-on-sheet (c .before .before .before .before .before .before .args .state .now) (sym (c .before .before .before .header-in-range .ensures) ∙ not-false _ (c .before .before .if2 .left))
 
 -- src/range.rt:119:9
 returns-3 : tie.Need-returns-3
