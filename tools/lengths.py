@@ -30,7 +30,7 @@ ROWS = [[length(n, ahead) for ahead in AHEAD] for n in NODES]
 def code():
     rows = "".join(f"    // N {n}\n" + "".join(f"    {figure},\n" for figure in row) for n, row in zip(NODES, ROWS))
     return ("// The sheet of state lengths (docs/STATE-LENGTHS.md): a row for each N, with look-ahead 0 to 15. Made by tools/lengths.py.\n"
-            f"pub const STATE_LENGTHS: [usize; 256] = [\n{rows}];\n")
+            f"pub const STATE_LENGTHS: [u16; 256] = [\n{rows}];\n")
 
 
 def proof():

@@ -11,7 +11,6 @@ use answers::table_ok;
 use epoch::MessageContent;
 use state::range::scratch_length;
 use state::range::state_ok;
-use state::words::AHEAD_AT;
 use state::words::EPOCH_AT;
 use state::words::NODES_AT;
 use steps::numbers::AGREEMENT_CONTENT;
@@ -34,12 +33,10 @@ fn first_checks(state: &[u64], scratch: usize, answers: &[u64]) -> u64
     if !state_ok(state) {
         return NOT_A_STATE;
     }
-    let n = state[NODES_AT];
-    let wanted = scratch_length(n as usize, state[AHEAD_AT] as usize);
-    if scratch < wanted {
+    if scratch < scratch_length(state) {
         return SCRATCH_TOO_SHORT;
     }
-    if !table_ok(n, answers) {
+    if !table_ok(state[NODES_AT], answers) {
         return ANSWERS_MALFORMED;
     }
     SUCCESS

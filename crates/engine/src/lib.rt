@@ -19,10 +19,8 @@ use calls::operations::propose;
 use state::range::scratch_length;
 use state::range::state_length;
 use state::range::state_ok;
-use state::words::AHEAD_AT;
 use state::words::EPOCH_AT;
 use state::words::FAULTS_AT;
-use state::words::NODES_AT;
 use state::words::clear;
 use steps::numbers::LAST_EPOCH;
 use steps::numbers::NOT_A_STATE;
@@ -87,7 +85,7 @@ pub extern "C" fn hb_propose(
     if leaves_scratch(checked) {
         return checked;
     }
-    let length = scratch_length(state[NODES_AT] as usize, state[AHEAD_AT] as usize);
+    let length = scratch_length(state);
     if checked != SUCCESS {
         clear(&mut scratch[..length]);
         return checked;
@@ -125,7 +123,7 @@ pub extern "C" fn hb_message(
     if leaves_scratch(checked) {
         return checked;
     }
-    let length = scratch_length(state[NODES_AT] as usize, state[AHEAD_AT] as usize);
+    let length = scratch_length(state);
     if checked != SUCCESS {
         clear(&mut scratch[..length]);
         return checked;

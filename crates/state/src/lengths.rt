@@ -1,5 +1,5 @@
 // The sheet of state lengths (docs/STATE-LENGTHS.md): a row for each N, with look-ahead 0 to 15. Made by tools/lengths.py.
-pub const STATE_LENGTHS: [usize; 256] = [
+pub const STATE_LENGTHS: [u16; 256] = [
     // N 1
     41,
     66,

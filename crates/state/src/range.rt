@@ -3,7 +3,7 @@ ghost use mathlib.Core.Path.{_≡_};
 ghost use Prim.Native.Nat.{_+_, _≤_};
 ghost use lib.ListN.{length};
 ghost use Rattle.steps.specs.Numbers.{nodeLimit, aheadLimit};
-ghost use Rattle.state.specs.State.{nodes, ahead, stateLength, scratchLength, headerLength, headerInRange, epochsAt, epochsInRange, stateOk};
+ghost use Rattle.state.specs.State.{nodes, ahead, stateLength, scratchOf, headerLength, headerInRange, epochsAt, epochsInRange, stateOk};
 ghost use Rattle.state.specs.Shape.{StateWords};
 use crate::lengths::STATE_LENGTHS;
 use crate::schedule::schedule_ok;
@@ -38,15 +38,15 @@ pub fn state_length(n: usize, ahead: usize) -> usize
     requires { ⌜ (1 ≤ n) × (n ≤ nodeLimit) × (ahead ≤ aheadLimit) ⌝ }
     ensures { λ r. ⌜ r ≡ stateLength n ahead ⌝ }
 {
-    STATE_LENGTHS[(n - 1) * 16 + ahead]
+    STATE_LENGTHS[(n - 1) * 16 + ahead] as usize
 }
 
-// How many words of scratch a call wants.
-pub fn scratch_length(n: usize, ahead: usize) -> usize
-    requires { ⌜ (1 ≤ n) × (n ≤ nodeLimit) × (ahead ≤ aheadLimit) ⌝ }
-    ensures { λ r. ⌜ r ≡ scratchLength n ahead ⌝ }
+// How many words of scratch a call wants: as many as a state in range has.
+pub fn scratch_length(state: &[u64]) -> usize
+    requires { ⌜ StateWords (now state) ⌝ }
+    ensures { λ r. ⌜ r ≡ scratchOf (now (state .entry)) ⌝ }
 {
-    state_length(n, ahead)
+    state.len()
 }
 
 // Whether the header is in range. What could overflow is tested first.

@@ -4,8 +4,7 @@ use native.Mathlib.Omega.{arith}
 use borrow.Author.Needs.{needs}
 use lib.ListN.{length}
 use lib.Seq.{length-take-le}
-use Rattle.state.proofs.WordsCode.{header-inside}
-use Rattle.state.proofs.RangeCode.{ok-words, ok-on-sheet}
+use Rattle.state.proofs.RangeCode.{ok-words}
 use Rattle.calls.specs.Checks.{leavesScratch}
 use Rattle.calls.proofs.ChecksApart.{then-past, first-past, propose-callable, propose-checked, ends-first, ends-turned, ends-run, cleared, after-scratch}
 use Rattle.engine.proofs.hb_propose.Statement.{statement}
@@ -18,91 +17,83 @@ use Rattle.calls.proofs.operations.propose.Reads as propose-reads
 use Rattle.state.proofs.range.scratch_length.Reads as scratch-length-reads
 use Rattle.state.proofs.words.clear.Reads as clear-reads
 
--- src/lib.rt:86:9
+-- src/lib.rt:84:9
 propose-checks-requires : tie.Need-propose-checks-requires
 propose-checks-requires c κs = search needs
 
--- src/lib.rt:87:8
+-- src/lib.rt:85:8
 leaves-scratch-requires : tie.Need-leaves-scratch-requires
 leaves-scratch-requires c κs = search needs
 
--- src/lib.rt:88:9
+-- src/lib.rt:86:9
 same-length : tie.Need-same-length
 same-length c = search needs
 
--- src/lib.rt:88:9
+-- src/lib.rt:86:9
 returns : tie.Need-returns
 returns c = ends-first (c .before .before .before .before .before .before .before .before .args .state .now) (c .before .before .before .before .before .before .before .before .args .scratch .now) (c .before .before .before .before .before .before .before .before .args .step .now) _ (propose-checked (c .before .before .before .before .before .before .before .before .args .state .now) (c .before .before .before .before .before .before .before .before .args .scratch .now) (c .before .before .before .before .before .before .before .before .args .answers .now) (c .before .before .before .before .before .before .before .before .args .step .now)) _ (c .before .before .propose-checks .ensures) (sym (c .before .leaves-scratch .ensures) ∙ c .if1 .taken)
 
--- src/lib.rt:90:33
-slice-read-scratch-length : tie.Need-slice-read-scratch-length
-slice-read-scratch-length c = omega (arith, header-inside (c .before .before .before .before .before .before .before .before .before .args .state .now) (ok-words (c .before .before .before .before .before .before .before .before .before .args .state .now) ((first-past (c .before .before .before .before .before .before .before .before .before .args .state .now) (length (c .before .before .before .before .before .before .before .before .before .args .scratch .now)) (c .before .before .before .before .before .before .before .before .before .args .answers .now) (then-past _ _ (ap leavesScratch (sym (c .before .before .before .propose-checks .ensures)) ∙ (sym (c .before .before .leaves-scratch .ensures) ∙ c .before .if1 .left)))) .0)))
+-- src/lib.rt:88:9
+scratch-length-requires : tie.Need-scratch-length-requires
+scratch-length-requires c κs = (ok-words (c .before .before .before .before .before .before .before .before .before .args .state .now) ((first-past (c .before .before .before .before .before .before .before .before .before .args .state .now) (length (c .before .before .before .before .before .before .before .before .before .args .scratch .now)) (c .before .before .before .before .before .before .before .before .before .args .answers .now) (then-past _ _ (ap leavesScratch (sym (c .before .before .before .propose-checks .ensures)) ∙ (sym (c .before .before .leaves-scratch .ensures) ∙ c .before .if1 .left)))) .0))
 
--- src/lib.rt:90:59
-slice-read-scratch-length-2 : tie.Need-slice-read-scratch-length-2
-slice-read-scratch-length-2 c = omega (arith, header-inside (c .before .before .before .before .before .before .before .before .before .before .args .state .now) (ok-words (c .before .before .before .before .before .before .before .before .before .before .args .state .now) ((first-past (c .before .before .before .before .before .before .before .before .before .before .args .state .now) (length (c .before .before .before .before .before .before .before .before .before .before .args .scratch .now)) (c .before .before .before .before .before .before .before .before .before .before .args .answers .now) (then-past _ _ (ap leavesScratch (sym (c .before .before .before .before .propose-checks .ensures)) ∙ (sym (c .before .before .before .leaves-scratch .ensures) ∙ c .before .before .if1 .left)))) .0)))
+-- src/lib.rt:90:15
+slice-relend-prefix-clear : tie.Need-slice-relend-prefix-clear
+slice-relend-prefix-clear c = (omega (arith, c .before .scratch-length .ensures, (first-past (c .before .before .before .before .before .before .before .before .before .before .before .args .state .now) (length (c .before .before .before .before .before .before .before .before .before .before .before .args .scratch .now)) (c .before .before .before .before .before .before .before .before .before .before .before .args .answers .now) (then-past _ _ (ap leavesScratch (sym (c .before .before .before .before .before .propose-checks .ensures)) ∙ (sym (c .before .before .before .before .leaves-scratch .ensures) ∙ c .before .before .before .if1 .left)))) .1))
+
+-- src/lib.rt:90:15
+slice-aggregate-clear : tie.Need-slice-aggregate-clear
+slice-aggregate-clear c = sym (length-take-le (c .before .before .scratch-length .result) (c .before .before .before .before .before .before .before .before .before .before .before .before .args .scratch .now) (omega (arith, c .before .before .scratch-length .ensures, (first-past (c .before .before .before .before .before .before .before .before .before .before .before .before .args .state .now) (length (c .before .before .before .before .before .before .before .before .before .before .before .before .args .scratch .now)) (c .before .before .before .before .before .before .before .before .before .before .before .before .args .answers .now) (then-past _ _ (ap leavesScratch (sym (c .before .before .before .before .before .before .propose-checks .ensures)) ∙ (sym (c .before .before .before .before .before .leaves-scratch .ensures) ∙ c .before .before .before .before .if1 .left)))) .1)))
 
 -- src/lib.rt:90:9
-scratch-length-requires : tie.Need-scratch-length-requires
-scratch-length-requires c κs = ok-on-sheet (c .before .before .before .before .before .before .before .before .before .before .args .state .now) ((first-past (c .before .before .before .before .before .before .before .before .before .before .args .state .now) (length (c .before .before .before .before .before .before .before .before .before .before .args .scratch .now)) (c .before .before .before .before .before .before .before .before .before .before .args .answers .now) (then-past _ _ (ap leavesScratch (sym (c .before .before .before .before .propose-checks .ensures)) ∙ (sym (c .before .before .before .leaves-scratch .ensures) ∙ c .before .before .if1 .left)))) .0)
-
--- src/lib.rt:92:15
-slice-relend-prefix-clear : tie.Need-slice-relend-prefix-clear
-slice-relend-prefix-clear c = (omega (arith, c .before .scratch-length .ensures, (first-past (c .before .before .before .before .before .before .before .before .before .before .before .before .args .state .now) (length (c .before .before .before .before .before .before .before .before .before .before .before .before .args .scratch .now)) (c .before .before .before .before .before .before .before .before .before .before .before .before .args .answers .now) (then-past _ _ (ap leavesScratch (sym (c .before .before .before .before .before .before .propose-checks .ensures)) ∙ (sym (c .before .before .before .before .before .leaves-scratch .ensures) ∙ c .before .before .before .before .if1 .left)))) .1))
-
--- src/lib.rt:92:15
-slice-aggregate-clear : tie.Need-slice-aggregate-clear
-slice-aggregate-clear c = sym (length-take-le (c .before .before .scratch-length .result) (c .before .before .before .before .before .before .before .before .before .before .before .before .before .args .scratch .now) (omega (arith, c .before .before .scratch-length .ensures, (first-past (c .before .before .before .before .before .before .before .before .before .before .before .before .before .args .state .now) (length (c .before .before .before .before .before .before .before .before .before .before .before .before .before .args .scratch .now)) (c .before .before .before .before .before .before .before .before .before .before .before .before .before .args .answers .now) (then-past _ _ (ap leavesScratch (sym (c .before .before .before .before .before .before .before .propose-checks .ensures)) ∙ (sym (c .before .before .before .before .before .before .leaves-scratch .ensures) ∙ c .before .before .before .before .before .if1 .left)))) .1)))
-
--- src/lib.rt:92:9
 clear-requires : tie.Need-clear-requires
 clear-requires c κs = search needs
 
--- src/lib.rt:93:9
+-- src/lib.rt:91:9
 same-length-2 : tie.Need-same-length-2
 same-length-2 c = search needs
 
--- src/lib.rt:93:9
+-- src/lib.rt:91:9
 same-length-3 : tie.Need-same-length-3
 same-length-3 c = search needs
 
--- src/lib.rt:93:9
+-- src/lib.rt:91:9
 returns-2 : tie.Need-returns-2
-returns-2 c = after-scratch _ _ _ _ _ (cleared (c .before .before .before .before .before .before .before .before .before .before .before .before .before .before .before .before .args .state .now) (c .before .before .before .before .before .before .before .before .before .before .before .before .before .before .before .before .args .scratch .now) _ (c .before .before .before .before .before .scratch-length .result) (c .before .before .before .before .before .scratch-length .ensures) (omega (arith, c .before .before .before .before .before .scratch-length .ensures, (first-past (c .before .before .before .before .before .before .before .before .before .before .before .before .before .before .before .before .args .state .now) (length (c .before .before .before .before .before .before .before .before .before .before .before .before .before .before .before .before .args .scratch .now)) (c .before .before .before .before .before .before .before .before .before .before .before .before .before .before .before .before .args .answers .now) (then-past _ _ (ap leavesScratch (sym (c .before .before .before .before .before .before .before .before .before .before .propose-checks .ensures)) ∙ (sym (c .before .before .before .before .before .before .before .before .before .leaves-scratch .ensures) ∙ c .before .before .before .before .before .before .before .before .if1 .left)))) .1)) (c .before .before .clear .ensures))
-    ∙ ends-turned (c .before .before .before .before .before .before .before .before .before .before .before .before .before .before .before .before .args .state .now) (c .before .before .before .before .before .before .before .before .before .before .before .before .before .before .before .before .args .scratch .now) (c .before .before .before .before .before .before .before .before .before .before .before .before .before .before .before .before .args .step .now) _ (propose-checked (c .before .before .before .before .before .before .before .before .before .before .before .before .before .before .before .before .args .state .now) (c .before .before .before .before .before .before .before .before .before .before .before .before .before .before .before .before .args .scratch .now) (c .before .before .before .before .before .before .before .before .before .before .before .before .before .before .before .before .args .answers .now) (c .before .before .before .before .before .before .before .before .before .before .before .before .before .before .before .before .args .step .now)) _ (c .before .before .before .before .before .before .before .before .before .before .propose-checks .ensures) (sym (c .before .before .before .before .before .before .before .before .before .leaves-scratch .ensures) ∙ c .before .before .before .before .before .before .before .before .if1 .left) (c .before .before .before .before .if2 .taken)
+returns-2 c = after-scratch _ _ _ _ _ (cleared (c .before .before .before .before .before .before .before .before .before .before .before .before .before .before .before .args .state .now) (c .before .before .before .before .before .before .before .before .before .before .before .before .before .before .before .args .scratch .now) _ (c .before .before .before .before .before .scratch-length .result) (c .before .before .before .before .before .scratch-length .ensures) (omega (arith, c .before .before .before .before .before .scratch-length .ensures, (first-past (c .before .before .before .before .before .before .before .before .before .before .before .before .before .before .before .args .state .now) (length (c .before .before .before .before .before .before .before .before .before .before .before .before .before .before .before .args .scratch .now)) (c .before .before .before .before .before .before .before .before .before .before .before .before .before .before .before .args .answers .now) (then-past _ _ (ap leavesScratch (sym (c .before .before .before .before .before .before .before .before .before .propose-checks .ensures)) ∙ (sym (c .before .before .before .before .before .before .before .before .leaves-scratch .ensures) ∙ c .before .before .before .before .before .before .before .if1 .left)))) .1)) (c .before .before .clear .ensures))
+    ∙ ends-turned (c .before .before .before .before .before .before .before .before .before .before .before .before .before .before .before .args .state .now) (c .before .before .before .before .before .before .before .before .before .before .before .before .before .before .before .args .scratch .now) (c .before .before .before .before .before .before .before .before .before .before .before .before .before .before .before .args .step .now) _ (propose-checked (c .before .before .before .before .before .before .before .before .before .before .before .before .before .before .before .args .state .now) (c .before .before .before .before .before .before .before .before .before .before .before .before .before .before .before .args .scratch .now) (c .before .before .before .before .before .before .before .before .before .before .before .before .before .before .before .args .answers .now) (c .before .before .before .before .before .before .before .before .before .before .before .before .before .before .before .args .step .now)) _ (c .before .before .before .before .before .before .before .before .before .propose-checks .ensures) (sym (c .before .before .before .before .before .before .before .before .leaves-scratch .ensures) ∙ c .before .before .before .before .before .before .before .if1 .left) (c .before .before .before .before .if2 .taken)
 
--- src/lib.rt:95:9
+-- src/lib.rt:93:9
 propose-requires : tie.Need-propose-requires
-propose-requires c κs = propose-callable (c .before .before .before .before .before .before .before .before .before .before .before .before .before .before .before .args .state .now) (c .before .before .before .before .before .before .before .before .before .before .before .before .before .before .before .args .scratch .now) (c .before .before .before .before .before .before .before .before .before .before .before .before .before .before .before .args .answers .now) (sym (c .before .before .before .before .before .before .before .before .before .propose-checks .ensures) ∙ c .before .before .before .if2 .left)
+propose-requires c κs = propose-callable (c .before .before .before .before .before .before .before .before .before .before .before .before .before .before .args .state .now) (c .before .before .before .before .before .before .before .before .before .before .before .before .before .before .args .scratch .now) (c .before .before .before .before .before .before .before .before .before .before .before .before .before .before .args .answers .now) (sym (c .before .before .before .before .before .before .before .before .propose-checks .ensures) ∙ c .before .before .before .if2 .left)
 
--- src/lib.rt:96:11
+-- src/lib.rt:94:11
 slice-relend-prefix-clear-2 : tie.Need-slice-relend-prefix-clear-2
-slice-relend-prefix-clear-2 c = (omega (arith, c .before .before .before .before .before .before .before .before .before .before .before .scratch-length .ensures, (first-past (c .before .before .before .before .before .before .before .before .before .before .before .before .before .before .before .before .before .before .before .before .before .before .args .state .now) (length (c .before .before .before .before .before .before .before .before .before .before .before .before .before .before .before .before .before .before .before .before .before .before .args .scratch .now)) (c .before .before .before .before .before .before .before .before .before .before .before .before .before .before .before .before .before .before .before .before .before .before .args .answers .now) (then-past _ _ (ap leavesScratch (sym (c .before .before .before .before .before .before .before .before .before .before .before .before .before .before .before .before .propose-checks .ensures)) ∙ (sym (c .before .before .before .before .before .before .before .before .before .before .before .before .before .before .before .leaves-scratch .ensures) ∙ c .before .before .before .before .before .before .before .before .before .before .before .before .before .before .if1 .left)))) .1, c .before .before .before .before .before .before .propose .kept))
+slice-relend-prefix-clear-2 c = (omega (arith, c .before .before .before .before .before .before .before .before .before .before .before .scratch-length .ensures, (first-past (c .before .before .before .before .before .before .before .before .before .before .before .before .before .before .before .before .before .before .before .before .before .args .state .now) (length (c .before .before .before .before .before .before .before .before .before .before .before .before .before .before .before .before .before .before .before .before .before .args .scratch .now)) (c .before .before .before .before .before .before .before .before .before .before .before .before .before .before .before .before .before .before .before .before .before .args .answers .now) (then-past _ _ (ap leavesScratch (sym (c .before .before .before .before .before .before .before .before .before .before .before .before .before .before .before .propose-checks .ensures)) ∙ (sym (c .before .before .before .before .before .before .before .before .before .before .before .before .before .before .leaves-scratch .ensures) ∙ c .before .before .before .before .before .before .before .before .before .before .before .before .before .if1 .left)))) .1, c .before .before .before .before .before .before .propose .kept))
 
--- src/lib.rt:96:11
+-- src/lib.rt:94:11
 slice-aggregate-clear-2 : tie.Need-slice-aggregate-clear-2
-slice-aggregate-clear-2 c = sym (length-take-le (c .before .before .before .before .before .before .before .before .before .before .before .before .scratch-length .result) (c .before .before .before .before .before .before .before .propose .last .1 .0) (omega (arith, c .before .before .before .before .before .before .before .before .before .before .before .before .scratch-length .ensures, (first-past (c .before .before .before .before .before .before .before .before .before .before .before .before .before .before .before .before .before .before .before .before .before .before .before .args .state .now) (length (c .before .before .before .before .before .before .before .before .before .before .before .before .before .before .before .before .before .before .before .before .before .before .before .args .scratch .now)) (c .before .before .before .before .before .before .before .before .before .before .before .before .before .before .before .before .before .before .before .before .before .before .before .args .answers .now) (then-past _ _ (ap leavesScratch (sym (c .before .before .before .before .before .before .before .before .before .before .before .before .before .before .before .before .before .propose-checks .ensures)) ∙ (sym (c .before .before .before .before .before .before .before .before .before .before .before .before .before .before .before .before .leaves-scratch .ensures) ∙ c .before .before .before .before .before .before .before .before .before .before .before .before .before .before .before .if1 .left)))) .1, c .before .before .before .before .before .before .before .propose .kept)))
+slice-aggregate-clear-2 c = sym (length-take-le (c .before .before .before .before .before .before .before .before .before .before .before .before .scratch-length .result) (c .before .before .before .before .before .before .before .propose .last .1 .0) (omega (arith, c .before .before .before .before .before .before .before .before .before .before .before .before .scratch-length .ensures, (first-past (c .before .before .before .before .before .before .before .before .before .before .before .before .before .before .before .before .before .before .before .before .before .before .args .state .now) (length (c .before .before .before .before .before .before .before .before .before .before .before .before .before .before .before .before .before .before .before .before .before .before .args .scratch .now)) (c .before .before .before .before .before .before .before .before .before .before .before .before .before .before .before .before .before .before .before .before .before .before .args .answers .now) (then-past _ _ (ap leavesScratch (sym (c .before .before .before .before .before .before .before .before .before .before .before .before .before .before .before .before .propose-checks .ensures)) ∙ (sym (c .before .before .before .before .before .before .before .before .before .before .before .before .before .before .before .leaves-scratch .ensures) ∙ c .before .before .before .before .before .before .before .before .before .before .before .before .before .before .if1 .left)))) .1, c .before .before .before .before .before .before .before .propose .kept)))
 
--- src/lib.rt:96:5
+-- src/lib.rt:94:5
 clear-requires-2 : tie.Need-clear-requires-2
 clear-requires-2 c κs = search needs
 
--- src/lib.rt:76:1
+-- src/lib.rt:74:1
 same-length-4 : tie.Need-same-length-4
 same-length-4 c = search needs
 
--- src/lib.rt:76:1
+-- src/lib.rt:74:1
 same-length-5 : tie.Need-same-length-5
 same-length-5 c = search needs
 
--- src/lib.rt:76:1
+-- src/lib.rt:74:1
 same-length-6 : tie.Need-same-length-6
 same-length-6 c = search needs
 
--- src/lib.rt:76:1
+-- src/lib.rt:74:1
 returns-3 : tie.Need-returns-3
-returns-3 c = after-scratch _ _ _ _ _ (cleared (c .before .before .before .before .before .before .before .before .before .before .before .before .before .before .before .before .before .before .before .before .before .before .before .before .before .before .args .state .now) (c .before .before .before .before .before .before .before .before .before .before .propose .last .1 .0) _ (c .before .before .before .before .before .before .before .before .before .before .before .before .before .before .before .scratch-length .result) (c .before .before .before .before .before .before .before .before .before .before .before .before .before .before .before .scratch-length .ensures) (omega (arith, c .before .before .before .before .before .before .before .before .before .before .before .before .before .before .before .scratch-length .ensures, (first-past (c .before .before .before .before .before .before .before .before .before .before .before .before .before .before .before .before .before .before .before .before .before .before .before .before .before .before .args .state .now) (length (c .before .before .before .before .before .before .before .before .before .before .before .before .before .before .before .before .before .before .before .before .before .before .before .before .before .before .args .scratch .now)) (c .before .before .before .before .before .before .before .before .before .before .before .before .before .before .before .before .before .before .before .before .before .before .before .before .before .before .args .answers .now) (then-past _ _ (ap leavesScratch (sym (c .before .before .before .before .before .before .before .before .before .before .before .before .before .before .before .before .before .before .before .before .propose-checks .ensures)) ∙ (sym (c .before .before .before .before .before .before .before .before .before .before .before .before .before .before .before .before .before .before .before .leaves-scratch .ensures) ∙ c .before .before .before .before .before .before .before .before .before .before .before .before .before .before .before .before .before .before .if1 .left)))) .1, c .before .before .before .before .before .before .before .before .before .before .propose .kept)) (c .before .before .clear2 .ensures))
-    ∙ c .before .before .before .before .before .before .before .before .before .before .propose .ensures ∙ ends-run (c .before .before .before .before .before .before .before .before .before .before .before .before .before .before .before .before .before .before .before .before .before .before .before .before .before .before .args .state .now) (c .before .before .before .before .before .before .before .before .before .before .before .before .before .before .before .before .before .before .before .before .before .before .before .before .before .before .args .scratch .now) (c .before .before .before .before .before .before .before .before .before .before .before .before .before .before .before .before .before .before .before .before .before .before .before .before .before .before .args .step .now) _ (propose-checked (c .before .before .before .before .before .before .before .before .before .before .before .before .before .before .before .before .before .before .before .before .before .before .before .before .before .before .args .state .now) (c .before .before .before .before .before .before .before .before .before .before .before .before .before .before .before .before .before .before .before .before .before .before .before .before .before .before .args .scratch .now) (c .before .before .before .before .before .before .before .before .before .before .before .before .before .before .before .before .before .before .before .before .before .before .before .before .before .before .args .answers .now) (c .before .before .before .before .before .before .before .before .before .before .before .before .before .before .before .before .before .before .before .before .before .before .before .before .before .before .args .step .now)) _ (c .before .before .before .before .before .before .before .before .before .before .before .before .before .before .before .before .before .before .before .before .propose-checks .ensures) (c .before .before .before .before .before .before .before .before .before .before .before .before .before .before .if2 .left)
+returns-3 c = after-scratch _ _ _ _ _ (cleared (c .before .before .before .before .before .before .before .before .before .before .before .before .before .before .before .before .before .before .before .before .before .before .before .before .before .args .state .now) (c .before .before .before .before .before .before .before .before .before .before .propose .last .1 .0) _ (c .before .before .before .before .before .before .before .before .before .before .before .before .before .before .before .scratch-length .result) (c .before .before .before .before .before .before .before .before .before .before .before .before .before .before .before .scratch-length .ensures) (omega (arith, c .before .before .before .before .before .before .before .before .before .before .before .before .before .before .before .scratch-length .ensures, (first-past (c .before .before .before .before .before .before .before .before .before .before .before .before .before .before .before .before .before .before .before .before .before .before .before .before .before .args .state .now) (length (c .before .before .before .before .before .before .before .before .before .before .before .before .before .before .before .before .before .before .before .before .before .before .before .before .before .args .scratch .now)) (c .before .before .before .before .before .before .before .before .before .before .before .before .before .before .before .before .before .before .before .before .before .before .before .before .before .args .answers .now) (then-past _ _ (ap leavesScratch (sym (c .before .before .before .before .before .before .before .before .before .before .before .before .before .before .before .before .before .before .before .propose-checks .ensures)) ∙ (sym (c .before .before .before .before .before .before .before .before .before .before .before .before .before .before .before .before .before .before .leaves-scratch .ensures) ∙ c .before .before .before .before .before .before .before .before .before .before .before .before .before .before .before .before .before .if1 .left)))) .1, c .before .before .before .before .before .before .before .before .before .before .propose .kept)) (c .before .before .clear2 .ensures))
+    ∙ c .before .before .before .before .before .before .before .before .before .before .propose .ensures ∙ ends-run (c .before .before .before .before .before .before .before .before .before .before .before .before .before .before .before .before .before .before .before .before .before .before .before .before .before .args .state .now) (c .before .before .before .before .before .before .before .before .before .before .before .before .before .before .before .before .before .before .before .before .before .before .before .before .before .args .scratch .now) (c .before .before .before .before .before .before .before .before .before .before .before .before .before .before .before .before .before .before .before .before .before .before .before .before .before .args .step .now) _ (propose-checked (c .before .before .before .before .before .before .before .before .before .before .before .before .before .before .before .before .before .before .before .before .before .before .before .before .before .args .state .now) (c .before .before .before .before .before .before .before .before .before .before .before .before .before .before .before .before .before .before .before .before .before .before .before .before .before .args .scratch .now) (c .before .before .before .before .before .before .before .before .before .before .before .before .before .before .before .before .before .before .before .before .before .before .before .before .before .args .answers .now) (c .before .before .before .before .before .before .before .before .before .before .before .before .before .before .before .before .before .before .before .before .before .before .before .before .before .args .step .now)) _ (c .before .before .before .before .before .before .before .before .before .before .before .before .before .before .before .before .before .before .before .propose-checks .ensures) (c .before .before .before .before .before .before .before .before .before .before .before .before .before .before .if2 .left)
 
 pub hb-propose-spec : {M : Type 1} → statement M
 hb-propose-spec =
@@ -112,8 +103,6 @@ hb-propose-spec =
     leaves-scratch-requires
     same-length
     returns
-    slice-read-scratch-length
-    slice-read-scratch-length-2
     scratch-length-requires
     slice-relend-prefix-clear
     slice-aggregate-clear

@@ -5,16 +5,11 @@ use Rattle.state.proofs.range.scratch_length.Statement.{statement}
 use Rattle.state.proofs.range.scratch_length.Tie as tie
 use Rattle.state.proofs.range.scratch_length.Reads as reads
 use Rattle.state.proofs.range.scratch_length.Lts as lts
-use Rattle.state.proofs.range.state_length.Reads as state-length-reads
-
--- src/range.rt:49:5
-state-length-requires : tie.Need-state-length-requires
-state-length-requires c κs = search needs
 
 -- src/range.rt:45:1
 returns : tie.Need-returns
 unfolding scratchLength
-returns c = c .state-length .ensures
+returns c = c .pre .long
 
 pub scratch-length-spec : {M : Type 1} → statement M
-scratch-length-spec = tie.close (tie.spec state-length-requires returns)
+scratch-length-spec = tie.close (tie.spec returns)

@@ -1,6 +1,6 @@
 -- Made by `fill` from answers.txt: change that and fill again.
 use borrow.Author.Needs.{needs}
-use Rattle.state.proofs.Sheet.{sheet-right}
+use Rattle.state.proofs.Sheet.{sheet-right, sheet-fits}
 use Rattle.state.proofs.range.state_length.Statement.{statement}
 use Rattle.state.proofs.range.state_length.Tie as tie
 use Rattle.state.proofs.range.state_length.Reads as reads
@@ -26,10 +26,15 @@ mul-result-2 c = search needs
 array-read-result : tie.Need-array-read-result
 array-read-result c = search needs
 
+-- src/range.rt:41:5
+cast-result : tie.Need-cast-result
+cast-result c = record { fits = sheet-fits (c .args .n) (c .args .ahead) (c .pre) }
+
 -- src/range.rt:37:1
 returns : tie.Need-returns
 returns c = sheet-right (c .args .n) (c .args .ahead) (c .pre)
 
 pub state-length-spec : {M : Type 1} → statement M
 state-length-spec =
-    tie.close (tie.spec sub-result mul-result add-result mul-result-2 array-read-result returns)
+    tie.close
+    (tie.spec sub-result mul-result add-result mul-result-2 array-read-result cast-result returns)
