@@ -3,7 +3,7 @@ use Prim.Native.Nat.{ℕ, zero, suc, _+_, _-_, _*_, _/_, _%_, _≤_, _<_, _^_}
 use native.Mathlib.Nat.{add-zero, zero-add, add-suc, suc-add, le-of-suc-le-suc, not-suc-le-zero}
 use native.Mathlib.Omega.{arith}
 use mathlib.Core.Path.{_≡_, refl, ap, sym, _∙_}
-use mathlib.Core.Bool.{Bool, true, false, _&&_}
+use mathlib.Core.Bool.{Bool, true, _&&_}
 use mathlib.Core.List.{List, [], _∷_}
 use lib.Dec.{eqb}
 use lib.ListN.{length, getD}
@@ -38,7 +38,7 @@ OnSheet n ahead = (1 ≤ n) × (n ≤ nodeLimit) × (ahead ≤ aheadLimit)
 abbrev pub entryOf : ℕ → ℕ → ℕ
 entryOf n ahead = (n - 1) * 16 + ahead
 
--- entry k is the figure of N = k / 16 + 1 and F = k % 16
+-- ALL 256 FIGURES, in one test: entry k is that of N = k / 16 + 1 and F = k % 16
 abbrev pub right : ℕ → ℕ → Bool
 right k figure = eqb figure (stateLength (k / 16 + 1) (k % 16))
 
@@ -54,6 +54,6 @@ sheet-right n ahead on =
     eqb-true _ _ (every-at right lengths all-right (entryOf n ahead) (omega arith))
     ∙ ap (λ m. stateLength m (entryOf n ahead % 16)) row ∙ ap (stateLength n) column
 
--- and small, so that they fit in whatever word they are put in
+-- and fit in a word
 pub sheet-fits : (n ahead : ℕ) → OnSheet n ahead → getD lengths (entryOf n ahead) 0 < 2 ^ 64
 sheet-fits n ahead on = rw (sheet-right n ahead on) (omega (arith, state-size n ahead (on .1) (on .2) .1))
