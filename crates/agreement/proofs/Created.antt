@@ -1,10 +1,10 @@
 -- The state that create leaves: its length, and that it keeps the range rules. Assumes nothing.
-use Prim.Native.Nat.{ℕ, zero, suc, _+_, _*_, _-_, _≤_}
+use Prim.Native.Nat.{ℕ, _+_, _*_, _-_, _≤_}
 use native.Mathlib.Omega.{arith}
 use mathlib.Core.Path.{_≡_, refl, sym, ap, _∙_}
 use mathlib.Core.Logic.{_↔_}
 use mathlib.Core.List.{List}
-use mathlib.Core.Bool.{Bool, true, false, cond, not, _&&_}
+use mathlib.Core.Bool.{Bool, true, false, cond, not}
 use lib.Dec.{eqb, leb}
 use lib.ListN.{length, getD, drop, replicate, length-replicate, List·getD-eq-default}
 use lib.Seq.{getD-append-add, getD-take, getD-drop}
