@@ -6,13 +6,14 @@
 #include <stdlib.h>
 #include <string.h>
 
-enum { COLUMNS = HB_MAX_LOOK_AHEAD + 1, NUMBERS = COLUMNS + 1 };
+/* A row has its N and a figure for each F; there is room for one number more, so that a longer line is told */
+enum { COLUMNS = HB_MAX_LOOK_AHEAD + 1, ROW = COLUMNS + 1, ROOM = ROW + 1 };
 
 /* The numbers of a line, as many as there is room for */
 static int numbers_of(const char *line, unsigned long *numbers)
 {
     int n = 0;
-    while (*line != '\0' && n < NUMBERS) {
+    while (*line != '\0' && n < ROOM) {
         char *end;
         if (*line < '0' || *line > '9') {
             line++;
@@ -71,13 +72,13 @@ int main(int count, char **words)
         return 2;
     }
     while (fgets(line, sizeof line, sheet) != NULL) {
-        unsigned long numbers[NUMBERS];
+        unsigned long numbers[ROOM];
         int found = numbers_of(line, numbers);
         if (strncmp(line, "```", 3) == 0)
             inside = !inside;
         else if (inside && found == COLUMNS)
             headings += is_heading(numbers);
-        else if (inside && found == NUMBERS)
+        else if (inside && found == ROW)
             wrong += !is_row((uint64_t)++rows, numbers);
     }
     fclose(sheet);

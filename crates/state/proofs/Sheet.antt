@@ -1,5 +1,5 @@
 -- The table of state lengths holds the formula: one test of all its entries, which antt computes, and one law that carries it to N and F. Assumes nothing.
-use Prim.Native.Nat.{ℕ, zero, suc, _+_, _-_, _*_, _/_, _%_, _≤_, _<_, _^_}
+use Prim.Native.Nat.{ℕ, zero, suc, _+_, _-_, _*_, _/_, _%_, _≤_, _<_}
 use native.Mathlib.Nat.{add-zero, zero-add, add-suc, suc-add, le-of-suc-le-suc, not-suc-le-zero}
 use native.Mathlib.Omega.{arith}
 use mathlib.Core.Path.{_≡_, refl, ap, sym, _∙_}
@@ -12,7 +12,6 @@ use Rattle.steps.specs.Numbers.{nodeLimit, aheadLimit}
 use Rattle.state.specs.State.{epochsAt, stateLength}
 use Rattle.state.proofs.Bools.{and-left, and-right}
 use Rattle.state.proofs.LengthTable.{lengths}
-use Rattle.state.proofs.WordsCode.{state-size}
 
 -- A TEST of each entry of a table and its index, the first of which is i
 unfoldable pub every : (ℕ → ℕ → Bool) → ℕ → List ℕ → Bool
@@ -53,7 +52,3 @@ sheet-right n ahead on =
     let column : entryOf n ahead % 16 ≡ ahead = omega arith in
     eqb-true _ _ (every-at right lengths all-right (entryOf n ahead) (omega arith))
     ∙ ap (λ m. stateLength m (entryOf n ahead % 16)) row ∙ ap (stateLength n) column
-
--- and fit in a word
-pub sheet-fits : (n ahead : ℕ) → OnSheet n ahead → getD lengths (entryOf n ahead) 0 < 2 ^ 64
-sheet-fits n ahead on = rw (sheet-right n ahead on) (omega (arith, state-size n ahead (on .1) (on .2) .1))

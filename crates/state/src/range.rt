@@ -33,12 +33,20 @@ use steps::numbers::FAULT_LIMIT;
 use steps::numbers::LAST_EPOCH;
 use steps::numbers::NODE_LIMIT;
 
-// How many words a state has, read off the sheet.
+// The figure of N and F on the sheet of state lengths.
+fn figure(n: usize, ahead: usize) -> u16
+    requires { ⌜ (1 ≤ n) × (n ≤ nodeLimit) × (ahead ≤ aheadLimit) ⌝ }
+    ensures { λ r. ⌜ r ≡ stateLength n ahead ⌝ }
+{
+    STATE_LENGTHS[(n - 1) * 16 + ahead]
+}
+
+// How many words a state has.
 pub fn state_length(n: usize, ahead: usize) -> usize
     requires { ⌜ (1 ≤ n) × (n ≤ nodeLimit) × (ahead ≤ aheadLimit) ⌝ }
     ensures { λ r. ⌜ r ≡ stateLength n ahead ⌝ }
 {
-    STATE_LENGTHS[(n - 1) * 16 + ahead] as usize
+    figure(n, ahead) as usize
 }
 
 // How many words of scratch a call wants: as many as a state in range has.

@@ -6,7 +6,7 @@ use Rattle.state.proofs.range.scratch_length.Tie as tie
 use Rattle.state.proofs.range.scratch_length.Reads as reads
 use Rattle.state.proofs.range.scratch_length.Lts as lts
 
--- src/range.rt:45:1
+-- src/range.rt:53:1
 returns : tie.Need-returns
 unfolding scratchLength
 returns c = c .pre .long

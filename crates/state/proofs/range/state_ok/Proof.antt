@@ -12,39 +12,39 @@ use Rattle.state.proofs.range.epochs_in_range.Reads as epochs-in-range-
 use Rattle.state.proofs.range.header_in_range.Reads as header-in-range-reads
 use Rattle.state.proofs.range.state_length.Reads as state-length-reads
 
--- src/range.rt:111:9
+-- src/range.rt:119:9
 returns : tie.Need-returns
 returns c = ok-short (c .before .before .args .state .now) (c .if1 .taken)
 
--- src/range.rt:113:9
+-- src/range.rt:121:9
 header-in-range-requires : tie.Need-header-in-range-requires
 header-in-range-requires c κs = search needs
 
--- src/range.rt:114:9
+-- src/range.rt:122:9
 returns-2 : tie.Need-returns-2
 returns-2 c = ok-header (c .before .before .before .before .args .state .now) (sym (c .before .header-in-range .ensures) ∙ not-true _ (c .if2 .taken))
 
--- src/range.rt:116:13
+-- src/range.rt:124:13
 shared-slice-read-n : tie.Need-shared-slice-read-n
 shared-slice-read-n c = search needs
 
--- src/range.rt:117:17
+-- src/range.rt:125:17
 shared-slice-read-ahead : tie.Need-shared-slice-read-ahead
 shared-slice-read-ahead c = search needs
 
--- src/range.rt:118:23
+-- src/range.rt:126:23
 state-length-requires : tie.Need-state-length-requires
 state-length-requires c κs = header-on-sheet (c .before .before .before .before .before .before .args .state .now) (sym (c .before .before .before .header-in-range .ensures) ∙ not-false _ (c .before .before .if2 .left))
 
--- src/range.rt:119:9
+-- src/range.rt:127:9
 returns-3 : tie.Need-returns-3
 returns-3 c = ok-length (c .before .before .before .before .before .before .before .before .args .state .now) (λ e. omega (arith, e, c .if3 .taken, c .before .state-length .ensures))
 
--- src/range.rt:121:5
+-- src/range.rt:129:5
 epochs-in-range-requires : tie.Need-epochs-in-range-requires
 epochs-in-range-requires c κs = header-words (c .before .before .before .before .before .before .before .before .args .state .now) (sym (c .before .before .before .before .before .header-in-range .ensures) ∙ not-false _ (c .before .before .before .before .if2 .left)) (omega (arith, c .if3 .left, c .before .state-length .ensures))
 
--- src/range.rt:107:1
+-- src/range.rt:115:1
 returns-4 : tie.Need-returns-4
 returns-4 c = c .epochs-in-range .ensures ∙ ok-epochs (c .before .before .before .before .before .before .before .before .before .args .state .now) (sym (c .before .before .before .before .before .before .header-in-range .ensures) ∙ not-false _ (c .before .before .before .before .before .if2 .left)) (omega (arith, c .before .if3 .left, c .before .before .state-length .ensures))
 
