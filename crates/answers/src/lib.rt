@@ -1,4 +1,6 @@
 // Reply 5: whether a table of words is an answer table, as document 01 has it.
+#![tactic(auto)]
+
 ghost use Rattle.std.specs.Prelude.{◌≡◌, ◌≤◌};
 ghost use Rattle.steps.specs.Table.{handle, record_ok, context_after, shape_ok, link_ok, may_follow, table_ok};
 

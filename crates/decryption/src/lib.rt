@@ -2,6 +2,8 @@
 //
 // Shares and the ciphertext are handles; 0 stands for none. `answers`, `place`, `step` and `words` are the call's answers with the
 // place in them, and its step with the table that it is written to.
+#![tactic(auto)]
+
 ghost use Rattle.std.specs.Prelude.{◌≡◌, ℕ, ◌<◌, List, cond};
 ghost use Rattle.std.proofs.Math.Option.{none};
 ghost use Rattle.network.specs.Network.{Network};
@@ -21,7 +23,7 @@ use steps::numbers::{
 use steps::reader::{Answer, Cursor};
 use steps::step::Step;
 
-#[derive(Drop)]
+#[derive(Clone, Copy)]
 pub struct ThresholdDecrypt {
     pub ciphertext: u64,
     // By sender. A table by index, for the Rust's map.
@@ -33,7 +35,7 @@ pub struct ThresholdDecrypt {
 }
 
 // What `set_ciphertext` comes to. `Invalid` is the caller's fault 4.
-#[derive(Drop)]
+#[derive(Clone, Copy)]
 pub enum SetOutcome {
     Set,
     Invalid,
@@ -41,14 +43,14 @@ pub enum SetOutcome {
     Refused,
 }
 
-#[derive(Drop)]
+#[derive(Clone, Copy)]
 pub struct SetCiphertext {
     pub td: ThresholdDecrypt,
     pub outcome: SetOutcome,
 }
 
 // What asking about a share comes to.
-#[derive(Drop)]
+#[derive(Clone, Copy)]
 pub enum Validity {
     Valid,
     Invalid,
@@ -56,13 +58,13 @@ pub enum Validity {
 }
 
 // What checking shares comes to.
-#[derive(Drop)]
+#[derive(Clone, Copy)]
 pub enum Checked {
     Done,
     Refused,
 }
 
-#[derive(Drop)]
+#[derive(Clone, Copy)]
 pub struct Removed {
     pub td: ThresholdDecrypt,
     pub outcome: Checked,
@@ -70,7 +72,7 @@ pub struct Removed {
 }
 
 // What an operation comes to: nothing yet, the output, a wanted answer that is not there, or the Rust's error `Decryption`.
-#[derive(Drop)]
+#[derive(Clone, Copy)]
 pub enum Outcome {
     Nothing,
     Plaintext(u64),
@@ -78,7 +80,7 @@ pub enum Outcome {
     Decryption,
 }
 
-#[derive(Drop)]
+#[derive(Clone, Copy)]
 pub struct Handled {
     pub td: ThresholdDecrypt,
     pub outcome: Outcome,

@@ -12,7 +12,7 @@ use state::words::{
 use steps::numbers::{AHEAD_LIMIT, LAST_EPOCH, NODE_LIMIT};
 
 // The ten numbers, in the order of the interface.
-#[derive(Drop)]
+#[derive(Clone, Copy)]
 pub struct Numbers {
     pub nodes: u64,
     pub faulty: u64,

@@ -1,5 +1,7 @@
 // The epoch engine, after honey_badger/honey_badger.rs: what a host calls, with numbers and slices of words (include/belkjund.h). No entry point
 // requires anything of what it is lent.
+#![tactic(auto)]
+
 ghost use Rattle.std.specs.Prelude.{◌≡◌};
 ghost use Rattle.calls.specs.Calls.{after, propose_call, message_call, skip_reply, skip_state, query_reply, current_epoch_result, has_input_result, received_proposals_result, fault_count_result};
 ghost use Rattle.engine.specs.Create.{numbers, create_reply, create_state};

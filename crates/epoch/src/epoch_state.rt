@@ -35,35 +35,35 @@ use subset::subset::SubsetOutcome;
 use subset::words::{ARRIVAL_FIELD, COUNT_AT, DECIDED_AT, RECORD_FIELDS, RECORDS_AT, VALUE_FIELD};
 
 // What a run comes to: it is done, a wanted answer is not there, or it failed with the number of the Rust's error.
-#[derive(Drop)]
+#[derive(Clone, Copy)]
 pub enum Outcome {
     Done,
     Refused,
     Failed(u64),
 }
 
-#[derive(Drop)]
+#[derive(Clone, Copy)]
 pub struct Ran {
     pub outcome: Outcome,
     pub step: Step,
 }
 
 // What comes to the subset: the own proposal, or a message for a proposer.
-#[derive(Drop)]
+#[derive(Clone, Copy)]
 pub enum SubsetInput {
     Proposal,
     Message(Content, usize),
 }
 
 // What comes to an epoch: something for its subset, or a share: sender, proposer, share.
-#[derive(Drop)]
+#[derive(Clone, Copy)]
 pub enum Input {
     Subset(SubsetInput),
     Share(usize, usize, u64),
 }
 
 // What a call of a decryption entry comes to: no plaintext yet, the plaintext, or as above.
-#[derive(Drop)]
+#[derive(Clone, Copy)]
 pub enum Called {
     Nothing,
     Plaintext(u64),
@@ -71,7 +71,7 @@ pub enum Called {
     Failed(u64),
 }
 
-#[derive(Drop)]
+#[derive(Clone, Copy)]
 pub struct Entered {
     pub td: ThresholdDecrypt,
     pub outcome: Called,

@@ -12,6 +12,8 @@
 // TABLE is the words of an answer table. A call whose numbers are out of range is skipped, and so is any other line.
 // Each call writes a line with its reply and step words, r REPLY WORD .., and, unless the batch has gone out, one with the epoch's words
 // after it, as in the input.
+#![tactic(auto)]
+
 ghost use Rattle.std.specs.Prelude.{◌≡◌, ◌≤◌, ◌<◌, length};
 ghost use Rattle.network.specs.Network.{Network};
 ghost use Rattle.subset.specs.Words.{epoch_length};
@@ -37,20 +39,20 @@ use subset::words::{RECORD_FIELDS, RECORDS_AT};
 const PROPOSE: u64 = 0;
 
 // The epoch before a call: its network line, and its words.
-#[derive(Drop)]
+#[derive(Clone, Copy)]
 struct Before {
     network: [u64; 6],
     words: [u64; 128],
 }
 
-#[derive(Drop)]
+#[derive(Clone, Copy)]
 struct Setting {
     net: NetworkInfo,
     strategy: SubsetHandlingStrategy,
     encrypted: bool,
 }
 
-#[derive(Drop)]
+#[derive(Clone, Copy)]
 struct Call {
     epoch: u64,
     current: bool,
@@ -61,7 +63,7 @@ struct Call {
 }
 
 // What a run comes to: its reply, and whether the batch went out.
-#[derive(Drop)]
+#[derive(Clone, Copy)]
 struct Ran {
     reply: u64,
     batch: bool,

@@ -21,26 +21,26 @@ use steps::step::Step;
 use subset::words::RECORDS_AT;
 
 // What reading contributions comes to: the readable proposers, a word of bits, or a wanted answer that is not there.
-#[derive(Drop)]
+#[derive(Clone, Copy)]
 pub enum Reading {
     Readable(u64),
     Refused,
 }
 
-#[derive(Drop)]
+#[derive(Clone, Copy)]
 pub struct Read {
     pub outcome: Reading,
     pub step: Step,
 }
 
 // What handing out a batch comes to.
-#[derive(Drop)]
+#[derive(Clone, Copy)]
 pub enum Handed {
     Done,
     Refused,
 }
 
-#[derive(Drop)]
+#[derive(Clone, Copy)]
 pub struct Batch {
     pub outcome: Handed,
     pub step: Step,

@@ -1,4 +1,6 @@
 // The text that the test programs read and write: lines of decimal numbers.
+#![tactic(auto)]
+
 ghost use Rattle.std.specs.Prelude.{◌+◌, ◌≤◌, ◌<◌, length};
 
 use libc::STDOUT_FILENO;

@@ -2,7 +2,7 @@
 ghost use Rattle.std.specs.Prelude.{◌≡◌};
 ghost use Rattle.network.specs.Network.{is_validator, is_node_validator, num_correct, Network};
 
-#[derive(Drop)]
+#[derive(Clone, Copy)]
 pub struct NetworkInfo {
     pub num_nodes: usize,
     // As given to create, and not computed from the number of nodes.

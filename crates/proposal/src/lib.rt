@@ -1,8 +1,10 @@
 // One proposal of the common subset, after subset/proposal_state.rs. Its broadcast and agreement instances are outside.
+#![tactic(auto)]
+
 pub mod proposal_state;
 
 // The state of a proposal's broadcast and agreement process. A value is a handle.
-#[derive(Drop)]
+#[derive(Clone, Copy)]
 pub enum ProposalState {
     // We are still awaiting the value from the broadcast and the decision from the agreement.
     Ongoing,

@@ -14,21 +14,21 @@ use steps::reader::{Answer, Content, Output};
 use steps::step::Step;
 
 // What an instance's answer comes to: its last output, a wanted answer that is not there, or the instance's error.
-#[derive(Drop)]
+#[derive(Clone, Copy)]
 pub enum Told {
     Output(Output),
     Refused,
     Failed(u64),
 }
 
-#[derive(Drop)]
+#[derive(Clone, Copy)]
 pub struct InstanceAnswer {
     pub outcome: Told,
     pub step: Step,
 }
 
 // What a step of a proposal comes to: no output, the value that it outputs, a wanted answer that is not there, or a failure.
-#[derive(Drop)]
+#[derive(Clone, Copy)]
 pub enum Outcome {
     Nothing,
     Value(u64),
@@ -36,7 +36,7 @@ pub enum Outcome {
     Failed(u64),
 }
 
-#[derive(Drop)]
+#[derive(Clone, Copy)]
 pub struct Transition {
     pub state: ProposalState,
     pub outcome: Outcome,

@@ -11,6 +11,8 @@
 // Each call writes a line with its reply and the step table up to the last word that was written, r REPLY WORD .., and, once there is a state,
 // one with what the queries give, the state's digest, and how many words of scratch from the first on are as the call must leave them (zeros, as
 // many as the state has words, then words that it did not touch: eight more are lent), q EPOCH INPUT RECEIVED FAULTS DIGEST SCRATCH.
+#![tactic(auto)]
+
 ghost use Rattle.std.specs.Prelude.{◌+◌, ◌≤◌, ◌<◌, length};
 
 use libc::STDIN_FILENO;

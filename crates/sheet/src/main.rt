@@ -1,4 +1,6 @@
 // Prints the sheet of state lengths (docs/STATE-LENGTHS.md) as the engine has it: a line for each N from 1 to 16, on it the lengths for look-ahead 0 to 15.
+#![tactic(auto)]
+
 ghost use Rattle.std.specs.Prelude.{◌≤◌};
 
 use libc::STDOUT_FILENO;

@@ -15,14 +15,14 @@ use crate::numbers::{
 use crate::step::Step;
 
 // Where a reader stands in an answer table: the index of the record to be read next, 0 at the end, and the index of the last record.
-#[derive(Drop)]
+#[derive(Clone, Copy)]
 pub struct Cursor {
     pub place: usize,
     pub last: usize,
 }
 
 // What stands at a place of the answer table.
-#[derive(Drop)]
+#[derive(Clone, Copy)]
 pub enum Found {
     Record {
         next: usize,
@@ -34,28 +34,28 @@ pub enum Found {
 }
 
 // An answer from outside: the words a and b of the record that was wanted, or reply 8.
-#[derive(Drop)]
+#[derive(Clone, Copy)]
 pub enum Answer {
     Got { a: u64, b: u64 },
     Refused,
 }
 
 // The output of an answer, if it had one.
-#[derive(Drop)]
+#[derive(Clone, Copy)]
 pub enum Output {
     Missing,
     Value(u64),
 }
 
 // Whose parts they are: a broadcast's or an agreement's.
-#[derive(Drop)]
+#[derive(Clone, Copy)]
 pub enum Content {
     Broadcast,
     Agreement,
 }
 
 // What the parts of an answer came to: their last output, and the step with their messages and faults.
-#[derive(Drop)]
+#[derive(Clone, Copy)]
 pub struct Parts {
     pub output: Output,
     pub step: Step,

@@ -8,13 +8,13 @@ ghost use Rattle.steps.specs.Steps.{out, chained, put_entry, put_at, advance, ne
 use crate::numbers::COUNT_LIMIT;
 
 // The records of one list: the index of the one that is written next, and the index past the last.
-#[derive(Drop)]
+#[derive(Clone, Copy)]
 pub struct Chain {
     pub at: usize,
     pub end: usize,
 }
 
-#[derive(Drop)]
+#[derive(Clone, Copy)]
 pub struct Step {
     pub messages: Chain,
     pub faults: Chain,

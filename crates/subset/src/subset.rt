@@ -15,21 +15,21 @@ use steps::reader::{Content, Cursor};
 use steps::step::Step;
 
 // What a call of one proposal, or a round of votes, comes to.
-#[derive(Drop)]
+#[derive(Clone, Copy)]
 pub enum Passing {
     Done,
     Refused,
     Failed(u64),
 }
 
-#[derive(Drop)]
+#[derive(Clone, Copy)]
 pub struct Passed {
     pub outcome: Passing,
     pub step: Step,
 }
 
 // What a call of the subset comes to: it goes on, it is done, a wanted answer is not there, or a failure.
-#[derive(Drop)]
+#[derive(Clone, Copy)]
 pub enum SubsetOutcome {
     Ongoing,
     Done,
@@ -38,7 +38,7 @@ pub enum SubsetOutcome {
 }
 
 // The contributions that a call hands up stand in the epoch's words.
-#[derive(Drop)]
+#[derive(Clone, Copy)]
 pub struct Handled {
     pub outcome: SubsetOutcome,
     pub step: Step,

@@ -9,6 +9,8 @@
 //     share SENDER HANDLE TABLE ..   the instance handles a share of this sender, and stays as that leaves it
 //
 // TABLE is the words of an answer table. Any other line is skipped.
+#![tactic(auto)]
+
 ghost use Rattle.std.specs.Prelude.{◌≤◌, ◌<◌};
 ghost use Rattle.network.specs.Network.{Network};
 
@@ -35,14 +37,14 @@ fn show(words: &[u64; 20]) {
 }
 
 // What an answer about a node came to: refused, a = 0, or its last output if it had one.
-#[derive(Drop)]
+#[derive(Clone, Copy)]
 enum Told {
     Refused,
     No,
     Output(Output),
 }
 
-#[derive(Drop)]
+#[derive(Clone, Copy)]
 struct Heard {
     told: Told,
     step: Step,

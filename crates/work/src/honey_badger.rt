@@ -28,28 +28,28 @@ use steps::step::Step;
 use subset::words::RECORD_FIELDS;
 
 // What an epoch is called with: the own proposal, or a message: sender, proposer, content.
-#[derive(Drop)]
+#[derive(Clone, Copy)]
 pub enum Call {
     Propose,
     Message(usize, usize, MessageContent),
 }
 
 // What handing out the batch of an epoch comes to.
-#[derive(Drop)]
+#[derive(Clone, Copy)]
 pub enum Trial {
     NotReady,
     Done,
     Refused,
 }
 
-#[derive(Drop)]
+#[derive(Clone, Copy)]
 pub struct Tried {
     pub outcome: Trial,
     pub step: Step,
 }
 
 // What handing out batches comes to: the epoch that is next, and how the last turn ended.
-#[derive(Drop)]
+#[derive(Clone, Copy)]
 pub struct Batches {
     pub next: u64,
     pub outcome: Trial,
@@ -57,7 +57,7 @@ pub struct Batches {
 }
 
 // What a run comes to, and the epoch that is current after it.
-#[derive(Drop)]
+#[derive(Clone, Copy)]
 pub struct Ran {
     pub next: u64,
     pub outcome: Outcome,
