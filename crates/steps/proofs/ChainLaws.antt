@@ -11,7 +11,7 @@ use native.Mathlib.Omega.{arith}
 use lib.ListN.{length, get_or}
 use lib.Dec.{ltb}
 use borrow.Author.Tests.{ltb-true, ltb-false, lt-ltb, le-ltb}
-use Rattle.steps.specs.Answers.{Rec, link, rec_at, on_record, walk, chain, tape_at, head_of, asked, ask_for}
+use Rattle.steps.specs.Answers.{Tape, Rec, link, rec_at, on_record, walk, chain, tape_at, head_of, asked, ask_for}
 use Rattle.steps.specs.declared.reader.Answer.TheVariants.{Got, Refused}
 use Rattle.steps.specs.declared.reader.Found.TheVariants.{Record, End}
 
@@ -137,9 +137,12 @@ module _ (want : Rec → Bool) (t : List ℕ) (i : ℕ) where
   unfolding ask_for
   asked_got n k a b e w = rw (chain_found t i n k a b e, w, ask_for)
 
-  pub asked_other : (n k a b : ℕ) → head_of (chain t i) ≡ Record n k a b → want (record { next = n; kind = k; a = a; b = b }) ≡ false → asked Refused (tape_at t i) ≡ ask_for want (tape_at t i) (chain t i)
+  passed_by : (p : Tape) (r : Rec) (rs : List Rec) → want r ≡ false → ask_for want p (r ∷ rs) ≡ asked Refused p
   unfolding ask_for
-  asked_other n k a b e w = rw (chain_found t i n k a b e, w, ask_for)
+  passed_by p r rs w = rw w
+
+  pub asked_other : (n k a b : ℕ) → head_of (chain t i) ≡ Record n k a b → want (record { next = n; kind = k; a = a; b = b }) ≡ false → asked Refused (tape_at t i) ≡ ask_for want (tape_at t i) (chain t i)
+  asked_other n k a b e w = sym (ap (ask_for want (tape_at t i)) (chain_found t i n k a b e) ∙ passed_by (tape_at t i) _ _ w)
 
 -- entries in two parts
 pub put_all_append : (o : Out) (l m : List Entry) → put_all o (l ++ m) ≡ put_all (put_all o l) m

@@ -20,4 +20,3 @@ pub mod Bounded
 pub mod FailureNumbers
 pub mod StateKept
 pub mod CaseTables
-pub mod LentCursor

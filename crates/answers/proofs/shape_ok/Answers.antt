@@ -1,0 +1,12 @@
+use borrow.Author.Tests.{lt-ltb, le-ltb}
+use Rattle.steps.specs.Table.{shape_ok}
+use borrow.Author.Rules.{rules}
+use Rattle.answers.proofs.shape_ok.Goals as goal
+
+pub returns-then-len-lt4 : goal.returns-then-len-lt4
+unfolding shape_ok
+returns-then-len-lt4 c = rw (lt-ltb _ _ c.if-len-lt4.true)
+
+pub returns : goal.returns
+unfolding shape_ok
+returns c = rw (le-ltb _ _ c.if-len-lt4.false)

@@ -1,0 +1,68 @@
+use mathlib.Core.Path.{◌≡◌, refl, sym, ◌∙◌}
+use mathlib.Core.Bool.{true}
+use Prim.Native.Nat.{ℕ, ◌+◌, ◌-◌, ◌/◌, ◌≤◌, ◌<◌}
+use native.Mathlib.Omega.{arith}
+use lib.ListN.{length, get_or}
+use borrow.Author.Tests.{not-true, not-false}
+use Rattle.steps.specs.Table.{may_follow, chain_ok, shape_ok, table_ok}
+use Rattle.steps.proofs.TableCheck.{shape_length, follow_facts, chain_end, chain_step}
+use borrow.Author.Rules.{rules}
+use Rattle.answers.proofs.table_ok.Goals as goal
+
+pub returns-then-not-shape_ok : goal.returns-then-not-shape_ok
+unfolding table_ok
+returns-then-not-shape_ok c = rw (sym c.shape_ok.ensures ∙ not-true _ c.if-not-shape_ok.true-raw)
+
+pub bounds-answers-0 : goal.bounds-answers-0
+bounds-answers-0 c = omega (arith, shape_length _ ((sym c.shape_ok.ensures ∙ not-false _ c.if-not-shape_ok.false-raw)))
+
+pub loop-next-init : goal.loop-next-init
+loop-next-init c = (omega (arith, shape_length _ ((sym c.shape_ok.ensures ∙ not-false _ c.if-not-shape_ok.false-raw))), (length c.args.answers.now, (omega arith, refl)))
+
+pub returns-then-not-may_follow : goal.returns-then-not-may_follow
+unfolding table_ok
+returns-then-not-may_follow c = rw ((sym c.shape_ok.ensures ∙ not-false _ c.if-not-shape_ok.false-raw)) (sym (c.loop-next.invariant.1.1.1 ∙ chain_step _ c.args.answers.now c.loop-next.own c.loop-next.next c.loop-next.context c.loop-next.invariant.1.0 c.loop-next.invariant.1.1.0 c.loop-next.invariant.0 c.loop-next-test.true ∙ rw (sym c.may_follow.ensures ∙ not-true _ c.if-not-may_follow.true-raw)))
+
+pub overflow_mul-next : goal.overflow_mul-next
+overflow_mul-next c = omega (arith, (follow_facts _ _ _ _ _ ((sym c.may_follow.ensures ∙ not-false _ c.if-not-may_follow.false-raw)) c.loop-next-test.true))
+
+pub overflow_add-next : goal.overflow_add-next
+overflow_add-next c = omega (arith, (follow_facts _ _ _ _ _ ((sym c.may_follow.ensures ∙ not-false _ c.if-not-may_follow.false-raw)) c.loop-next-test.true))
+
+pub offset_bounds-answers-next : goal.offset_bounds-answers-next
+offset_bounds-answers-next c = omega (arith, (follow_facts _ _ _ _ _ ((sym c.may_follow.ensures ∙ not-false _ c.if-not-may_follow.false-raw)) c.loop-next-test.true))
+
+pub bounds-answers-next : goal.bounds-answers-next
+bounds-answers-next c = omega (arith, (follow_facts _ _ _ _ _ ((sym c.may_follow.ensures ∙ not-false _ c.if-not-may_follow.false-raw)) c.loop-next-test.true))
+
+pub overflow_mul-next-in-loop-next : goal.overflow_mul-next-in-loop-next
+overflow_mul-next-in-loop-next c = omega (arith, (follow_facts _ _ _ _ _ ((sym c.may_follow.ensures ∙ not-false _ c.if-not-may_follow.false-raw)) c.loop-next-test.true))
+
+pub overflow_add-next-in-loop-next : goal.overflow_add-next-in-loop-next
+overflow_add-next-in-loop-next c = omega (arith, (follow_facts _ _ _ _ _ ((sym c.may_follow.ensures ∙ not-false _ c.if-not-may_follow.false-raw)) c.loop-next-test.true))
+
+pub offset_bounds-answers-next-in-loop-next : goal.offset_bounds-answers-next-in-loop-next
+offset_bounds-answers-next-in-loop-next c = omega (arith, (follow_facts _ _ _ _ _ ((sym c.may_follow.ensures ∙ not-false _ c.if-not-may_follow.false-raw)) c.loop-next-test.true))
+
+pub bounds-answers-next-in-loop-next : goal.bounds-answers-next-in-loop-next
+bounds-answers-next-in-loop-next c = omega (arith, (follow_facts _ _ _ _ _ ((sym c.may_follow.ensures ∙ not-false _ c.if-not-may_follow.false-raw)) c.loop-next-test.true))
+
+pub overflow_mul-next-in-loop-next-2 : goal.overflow_mul-next-in-loop-next-2
+overflow_mul-next-in-loop-next-2 c = omega (arith, (follow_facts _ _ _ _ _ ((sym c.may_follow.ensures ∙ not-false _ c.if-not-may_follow.false-raw)) c.loop-next-test.true))
+
+pub offset_bounds-answers-own : goal.offset_bounds-answers-own
+offset_bounds-answers-own c = omega (arith, (follow_facts _ _ _ _ _ ((sym c.may_follow.ensures ∙ not-false _ c.if-not-may_follow.false-raw)) c.loop-next-test.true))
+
+pub bounds-answers-own : goal.bounds-answers-own
+bounds-answers-own c = omega (arith, (follow_facts _ _ _ _ _ ((sym c.may_follow.ensures ∙ not-false _ c.if-not-may_follow.false-raw)) c.loop-next-test.true))
+
+pub loop-next-smaller : goal.loop-next-smaller
+loop-next-smaller c = omega (arith, (follow_facts _ _ _ _ _ ((sym c.may_follow.ensures ∙ not-false _ c.if-not-may_follow.false-raw)) c.loop-next-test.true))
+
+pub loop-next-preserved : goal.loop-next-preserved
+loop-next-preserved c = let f = (follow_facts _ _ _ _ _ ((sym c.may_follow.ensures ∙ not-false _ c.if-not-may_follow.false-raw)) c.loop-next-test.true) in
+    (omega (arith, f), (c.loop-next.invariant.1.0 - 1, (omega (arith, f), c.loop-next.invariant.1.1.1 ∙ chain_step _ c.args.answers.now c.loop-next.own c.loop-next.next c.loop-next.context c.loop-next.invariant.1.0 c.loop-next.invariant.1.1.0 c.loop-next.invariant.0 c.loop-next-test.true ∙ rw ((sym c.may_follow.ensures ∙ not-false _ c.if-not-may_follow.false-raw), c.context_after-context.ensures))))
+
+pub returns : goal.returns
+unfolding table_ok
+returns c = rw ((sym c.shape_ok.ensures ∙ not-false _ c.if-not-shape_ok.false-raw)) (sym (c.loop-next.invariant.1.1.1 ∙ chain_end _ _ c.loop-next.own c.loop-next.next c.loop-next.context c.loop-next.invariant.1.0 c.loop-next-test.false))

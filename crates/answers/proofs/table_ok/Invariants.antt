@@ -1,0 +1,16 @@
+use mathlib.Core.Path.{◌≡◌, refl, sym, ◌∙◌}
+use mathlib.Core.Bool.{true}
+use Prim.Native.Nat.{ℕ, ◌+◌, ◌-◌, ◌/◌, ◌≤◌, ◌<◌}
+use native.Mathlib.Omega.{arith}
+use lib.ListN.{length, get_or}
+use borrow.Author.Tests.{not-true, not-false}
+use Rattle.steps.specs.Table.{may_follow, chain_ok, shape_ok, table_ok}
+use Rattle.steps.proofs.TableCheck.{shape_length, follow_facts, chain_end, chain_step}
+use borrow.Author.Rules.{rules}
+use Rattle.answers.proofs.table_ok.Given as goal
+
+abbrev pub invariant-loop-next : goal.invariant-loop-next
+invariant-loop-next l = (l.own < length l.answers) × ((m : ℕ) × ((length l.answers ≤ l.own + m) × (chain_ok (length l.answers) l.n l.answers 0 (get_or l.answers 0 0) 0 ≡ chain_ok m l.n l.answers l.own l.next l.context)))
+
+abbrev pub decreases-loop-next : goal.decreases-loop-next
+decreases-loop-next l = length l.answers - l.own

@@ -1,0 +1,7 @@
+use mathlib.Core.Path.{refl}
+use Rattle.steps.specs.Bits.{has_bit}
+use Rattle.steps.proofs.bits.has_bit.Goals as goal
+
+pub returns : goal.returns
+unfolding has_bit
+returns c = refl

@@ -1,0 +1,7 @@
+use mathlib.Core.Path.{refl}
+use Rattle.steps.specs.Parts.{is_part}
+use Rattle.steps.proofs.reader.is_part.Goals as goal
+
+pub returns : goal.returns
+unfolding is_part
+returns c = refl

@@ -1,0 +1,7 @@
+use Rattle.steps.specs.Parts.{last_output, last_of}
+use mathlib.Core.Path.{◌∙◌, ap}
+use Rattle.steps.proofs.reader.last_output.Goals as goal
+
+pub returns : goal.returns
+unfolding last_output
+returns c = c.last_of.ensures ∙ ap (last_of _) c.output_of-part.ensures

@@ -1,0 +1,11 @@
+use borrow.Author.Tests.{eq-eqb, ne_eqb}
+use Rattle.steps.specs.Parts.{output_of}
+use Rattle.steps.proofs.reader.output_of.Goals as goal
+
+pub returns-then-kind-eq-OUTPUT_PART : goal.returns-then-kind-eq-OUTPUT_PART
+unfolding output_of
+returns-then-kind-eq-OUTPUT_PART c = rw (eq-eqb _ _ c.if-kind-eq-OUTPUT_PART.true)
+
+pub returns : goal.returns
+unfolding output_of
+returns c = rw (ne_eqb _ _ c.if-kind-eq-OUTPUT_PART.false)

@@ -1,0 +1,26 @@
+use native.Mathlib.Omega.{arith}
+use lib.ListN.{length-set}
+use borrow.Author.Tests.{le-ltb, lt-ltb, le-leb, lt-leb}
+use Rattle.steps.specs.Steps.{advance, put_at}
+use Rattle.steps.proofs.step.Chain.put.Goals as goal
+
+pub returns-then-at-ge-COUNT_LIMIT : goal.returns-then-at-ge-COUNT_LIMIT
+unfolding advance put_at
+returns-then-at-ge-COUNT_LIMIT c = simp (le-leb _ _ c.if-at-ge-COUNT_LIMIT.true, advance, put_at)
+
+pub returns-then-words-at : goal.returns-then-words-at
+unfolding advance put_at
+returns-then-words-at c = simp (lt-leb _ _ c.if-at-ge-COUNT_LIMIT.false, le-ltb _ _ c.if-words-at.true, advance, put_at)
+
+pub bounds-words-word-2 : goal.bounds-words-word-2
+bounds-words-word-2 c = simp length-set (omega arith)
+
+pub bounds-words-word-3 : goal.bounds-words-word-3
+bounds-words-word-3 c = simp length-set (omega arith)
+
+pub bounds-words-word-4 : goal.bounds-words-word-4
+bounds-words-word-4 c = simp length-set (omega arith)
+
+pub returns : goal.returns
+unfolding advance put_at
+returns c = simp (lt-leb _ _ c.if-at-ge-COUNT_LIMIT.false, lt-ltb _ _ c.if-words-at.false, advance, put_at, c.next_of.ensures)
