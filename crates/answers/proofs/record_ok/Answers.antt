@@ -8,6 +8,7 @@ use borrow.Author.Tests.{ne_eqb, le-leb, lt-leb}
 use Rattle.steps.specs.Table.{record_ok, handle, within}
 use borrow.Author.Rules.{rules}
 use Rattle.answers.proofs.record_ok.Goals as goal
+use Rattle.answers.proofs.record_ok.Goals.{then-context-le-BROADCAST_MESSAGE, else-context-le-BROADCAST_MESSAGE, in-13-1, in_default+else-this-lt1+then-this-lt11}
 
 none : (n x k a b : ℕ) → (k ≡ 1 → ⊥) → ((k ≡ 2) ⊎ (k ≡ 12) → ⊥) → (k ≡ 13 → ⊥) → (k ≡ 11 → ⊥) → (k ≡ 16 → ⊥) → (k ≡ 17 → ⊥) → (k ≡ 18 → ⊥)
     → within 3 10 k ≡ false → false ≡ record_ok n x k a b
@@ -49,15 +50,26 @@ returns-in-17 c = rw c.in-17.is
 
 pub returns-after-context-le-BROADCAST_MESSAGE : goal.returns-after-context-le-BROADCAST_MESSAGE
 unfolding record_ok
-returns-after-context-le-BROADCAST_MESSAGE c = ⊎_elim (λ w. simp (c.in-18.is, le-leb _ _ w.0.taken, w.2, w.1.ensures)) (λ w. simp (c.in-18.is, lt-leb _ _ w.0.left, w.1)) c.if-context-le-BROADCAST_MESSAGE.branch
+returns-after-context-le-BROADCAST_MESSAGE c = elim c.if-context-le-BROADCAST_MESSAGE.branch [
+  | then-context-le-BROADCAST_MESSAGE w ↦ simp (c.in-18.is, le-leb _ _ w.if-context-le-BROADCAST_MESSAGE.true, w.result-is, w.is_handle-then-context-le-BROADCAST_MESSAGE.ensures)
+  | else-context-le-BROADCAST_MESSAGE w ↦ simp (c.in-18.is, lt-leb _ _ w.if-context-le-BROADCAST_MESSAGE.false, w.result-is)
+]
 
 pub returns-in_default : goal.returns-in_default
-returns-in_default c = none c.args.n c.args.context c.args.kind c.args.a c.args.b c.in_default-1.rest.0.0.0.0.0.0.1 c.in_default-1.rest.0.0.0.0.0.1 c.in_default-1.rest.0.0.0.0.1 c.in_default-1.rest.0.0.0.1 c.in_default-1.rest.0.0.1 c.in_default-1.rest.0.1 c.in_default-1.rest.1 (rw (lt-leb 3 c.args.kind (omega arith)))
+returns-in_default c =
+    let r = c.in_default.in_default-own.rest in
+    none c.args.n c.args.context c.args.kind c.args.a c.args.b r.0.0.0.0.0.0.1 r.0.0.0.0.0.1 r.0.0.0.0.1 r.0.0.0.1 r.0.0.1 r.0.1 r.1 (rw (lt-leb 3 c.args.kind (omega arith)))
 
 pub returns-in_default-2 : goal.returns-in_default-2
-returns-in_default-2 c = none c.args.n c.args.context c.args.kind c.args.a c.args.b c.in_default-1.rest.0.0.0.0.0.0.1 c.in_default-1.rest.0.0.0.0.0.1 c.in_default-1.rest.0.0.0.0.1 c.in_default-1.rest.0.0.0.1 c.in_default-1.rest.0.0.1 c.in_default-1.rest.0.1 c.in_default-1.rest.1 (rw (le-leb 3 c.args.kind (three _ c.in_default-1.rest.0.0.0.0.0.0.1 c.in_default-1.rest.0.0.0.0.0.1 c.if-this-lt1.false), lt-leb c.args.kind 10 c.if-this-lt11.false))
+returns-in_default-2 c =
+    let r = c.in_default.in_default-own.rest in
+    none c.args.n c.args.context c.args.kind c.args.a c.args.b r.0.0.0.0.0.0.1 r.0.0.0.0.0.1 r.0.0.0.0.1 r.0.0.0.1 r.0.0.1 r.0.1 r.1 (rw (le-leb 3 c.args.kind (three _ r.0.0.0.0.0.0.1 r.0.0.0.0.0.1 c.in_default.if-this-lt1-own.false), lt-leb c.args.kind 10 c.in_default.if-this-lt11-own.false))
 
 pub returns-in-3-to-10 : goal.returns-in-3-to-10
 unfolding record_ok
-returns-in-3-to-10 c = ⊎_elim (λ w. rw w.keys3)
-    (λ w. some c.args.n c.args.context c.args.kind c.args.a c.args.b (three _ w.0.rest.0.0.0.0.0.0.1 w.0.rest.0.0.0.0.0.1 w.1.left) w.2.taken) c.in-3-to-10-1.branch
+returns-in-3-to-10 c =
+    elim c.in-3-to-10-1.branch [
+      | in-13-1 w ↦ rw w.in-13-1.keys3
+      | in_default+else-this-lt1+then-this-lt11 w ↦
+          some c.args.n c.args.context c.args.kind c.args.a c.args.b (three _ w.in_default-1.rest.0.0.0.0.0.0.1 w.in_default-1.rest.0.0.0.0.0.1 w.if-this-lt1-1.false) w.if-this-lt11-1.true
+    ]
