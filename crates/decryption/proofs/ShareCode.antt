@@ -2,14 +2,12 @@
 use Prim.Native.Nat.{ℕ, suc, ◌+◌, ◌-◌, ◌<◌, ◌≤◌}
 use native.Mathlib.Omega.{arith}
 use mathlib.Core.Path.{◌≡◌, refl, ◌∙◌}
-use mathlib.Core.List.{List, [], ◌∷◌}
+use mathlib.Core.List.{List}
 use mathlib.Core.Bool.{true, false, cond, not}
 use mathlib.Core.Option.{none}
 use lib.ListN.{get_or, set}
 use lib.Dec.{eqb}
 use borrow.Author.Tests.{eq-eqb, ne_eqb}
-use types.Run.{OneOf, miss}
-use denote.Enum.Declared.{tag_of}
 use Rattle.steps.specs.declared.reader.Answer.{Answer}
 use Rattle.steps.specs.declared.reader.Answer.TheVariants.{Got, Refused as NoAnswer}
 use Rattle.steps.specs.Answers.{Tape, asked, ask_about}
@@ -27,8 +25,6 @@ use Rattle.decryption.specs.declared.Checked.TheVariants.{Done, Refused as NoneC
 use Rattle.decryption.specs.declared.Outcome.{Outcome}
 use Rattle.decryption.specs.declared.Outcome.TheVariants.{Nothing, Plaintext, Refused, Decryption}
 use Rattle.decryption.specs.declared.Handled.{Handled}
-use Rattle.decryption.specs.contracts.Checked.{the_type as checked_type}
-use Rattle.decryption.specs.contracts.Outcome.{the_type as outcome_type}
 
 -- how many of the two flags are not set
 abbrev pub unset : ThresholdDecrypt → ℕ
@@ -54,12 +50,12 @@ count_done i s h =
     rw e
 
 -- the ways of a `let Checked::Done = x else` and of a `let Outcome::Nothing = x else` that are not taken
-pub not_done : (x : Checked) → OneOf (1 ∷ []) (tag_of checked_type x) → checked_verdict x ≡ refused
-not_done Done h = absurd (miss (1 ∷ []) 0 tt h)
+pub not_done : (x : Checked) → (x ≡ Done → ⊥) → checked_verdict x ≡ refused
+not_done Done h = absurd (h refl)
 not_done NoneChecked h = refl
 
-pub not_nothing : (x : Outcome) → OneOf (1 ∷ 2 ∷ 3 ∷ []) (tag_of outcome_type x) → verdict x ≡ going none → ⊥
-not_nothing Nothing h e = miss (1 ∷ 2 ∷ 3 ∷ []) 0 tt h
+pub not_nothing : (x : Outcome) → (x ≡ Nothing → ⊥) → verdict x ≡ going none → ⊥
+not_nothing Nothing h e = h refl
 not_nothing (Plaintext n) h e = let z : ◌≡◌ {A = ℕ} 0 1 = cc in omega arith
 not_nothing Refused h e = let z : ◌≡◌ {A = ℕ} 0 1 = cc in omega arith
 not_nothing Decryption h e = let z : ◌≡◌ {A = ℕ} 0 1 = cc in omega arith
