@@ -1,0 +1,37 @@
+use mathlib.Core.Path.{◌∙◌}
+use borrow.Author.Rules.{rules}
+use borrow.Author.Tests.{eq-eqb, ne_eqb}
+use Rattle.proposal.specs.Proposal.{after_agreement}
+use Rattle.proposal.proofs.ProposalState.after_agreement.Goals as goal
+
+pub returns-then-decision-eq0 : goal.returns-then-decision-eq0
+unfolding after_agreement
+returns-then-decision-eq0 c = c.transition-then-decision-eq0.ensures ∙ rw (c.in-Ongoing.is, c.in-Value.is, eq-eqb _ _ c.if-decision-eq0.true)
+
+pub returns-then-decision-eq0-2 : goal.returns-then-decision-eq0-2
+unfolding after_agreement
+returns-then-decision-eq0-2 c = c.transition-then-decision-eq0-2.ensures ∙ rw (c.in-HasValue.is, c.in-Value-output.is, eq-eqb _ _ c.if-decision-eq0-2.true)
+
+pub returns-in-Missing : goal.returns-in-Missing
+unfolding after_agreement
+returns-in-Missing c = c.transition.ensures ∙ rw (c.in-Ongoing.is, c.in-Missing.is)
+
+pub returns-else-decision-eq0 : goal.returns-else-decision-eq0
+unfolding after_agreement
+returns-else-decision-eq0 c = c.transition-in-Value.ensures ∙ rw (c.in-Ongoing.is, c.in-Value.is, ne_eqb _ _ c.if-decision-eq0.false)
+
+pub returns-in-Missing-output : goal.returns-in-Missing-output
+unfolding after_agreement
+returns-in-Missing-output c = c.transition-in-Missing-output.ensures ∙ rw (c.in-HasValue.is, c.in-Missing-output.is)
+
+pub returns-else-decision-eq0-2 : goal.returns-else-decision-eq0-2
+unfolding after_agreement
+returns-else-decision-eq0-2 c = c.transition-in-Value-output.ensures ∙ rw (c.in-HasValue.is, c.in-Value-output.is, ne_eqb _ _ c.if-decision-eq0-2.false)
+
+pub returns-in-Accepted : goal.returns-in-Accepted
+unfolding after_agreement
+returns-in-Accepted c = c.transition-in-Accepted.ensures ∙ rw c.in-Accepted.is
+
+pub returns-in-Complete : goal.returns-in-Complete
+unfolding after_agreement
+returns-in-Complete c = c.transition-in-Complete.ensures ∙ rw c.in-Complete.is

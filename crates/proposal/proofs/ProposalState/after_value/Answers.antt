@@ -1,0 +1,25 @@
+use Prim.Native.Nat.{ℕ}
+use mathlib.Core.Path.{◌≡◌, sym, ap, ◌∙◌}
+use mathlib.Core.Bool.{false≢true}
+use borrow.Author.Rules.{rules}
+use Rattle.steps.specs.Runs.{leaves}
+use Rattle.proposal.specs.Proposal.{asks_broadcast, after_value}
+use Rattle.proposal.proofs.ProposalCode.{ends_with, value_missing, value_votes, value_output}
+use Rattle.proposal.proofs.ProposalState.after_value.Goals as goal
+
+pub returns-in-Missing : goal.returns-in-Missing
+returns-in-Missing c = ends_with _ _ c.transition.ensures ∙ rw c.in-Missing.is (ap (leaves _) (sym (value_missing _ _ _ _)))
+
+pub returns-in-Ongoing : goal.returns-in-Ongoing
+returns-in-Ongoing c = c.handle_agreement.ensures ∙ rw (c.in-Value.is, c.in-Ongoing.is) (ap (leaves _) (sym (value_votes _ _ _ _)))
+
+pub returns-in-Accepted : goal.returns-in-Accepted
+returns-in-Accepted c = ends_with _ _ c.transition-in-Accepted.ensures ∙ rw (c.in-Value.is, c.in-Accepted.is) (ap (leaves _) (sym (value_output _ _ _ _)))
+
+pub returns-in-HasValue : goal.returns-in-HasValue
+unfolding asks_broadcast
+returns-in-HasValue c = absurd (false≢true (ap asks_broadcast (sym c.in-HasValue.is) ∙ c.requires))
+
+pub returns-in-Complete : goal.returns-in-Complete
+unfolding asks_broadcast
+returns-in-Complete c = absurd (false≢true (ap asks_broadcast (sym c.in-Complete.is) ∙ c.requires))
