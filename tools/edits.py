@@ -41,7 +41,7 @@ def attempt(folder, crate, name):
         text = path.read_text()
         saved.setdefault(path, text)
         path.write_text(text.replace(old, new, 1))
-    ran = subprocess.run(["rt", "dev", crate], cwd=folder, capture_output=True, text=True)
+    ran = subprocess.run(["rt", "check"], cwd=folder / "crates" / crate, capture_output=True, text=True)
     for path, text in saved.items():
         path.write_text(text)
     errors = [line for line in (ran.stdout + ran.stderr).splitlines() if ": error: " in line and "was not admitted" not in line]

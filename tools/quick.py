@@ -1,8 +1,8 @@
 #!/usr/bin/env python3
 """tools/quick.py FOLDER: makes or refreshes a copy of the layers in which definitions and laws check in seconds.
 
-src/ holds the type declarations only, specs/ and proofs/*.antt are those of the repository: no function is proved. Run `rt dev CRATE` or
-`rt check CRATE` there, after each edit here and a refresh; only what changed is written.
+src/ holds the type declarations only, specs/ and proofs/*.antt are those of the repository: no function is proved. Run `rt check`
+in a crate's folder there, lowest crates first, after each edit here and a refresh; only what changed is written.
 """
 import pathlib
 import re
@@ -12,11 +12,20 @@ import sys
 ROOT = pathlib.Path(__file__).resolve().parent.parent
 
 
+def imports(text):
+    """The imports of a source file, one name a line: `use a::{B, C};` is `use a::B;` and `use a::C;`."""
+    for head, path, group in re.findall(r"^((?:pub )?use )([\w:]+?)(?:::\{([^}]*)\})?;", text, re.M):
+        for name in re.findall(r"\w+", group):
+            yield f"{head}{path}::{name};"
+        if not group:
+            yield f"{head}{path};"
+
+
 def types_only(text):
     """The declared types of a source file, without its functions."""
     found = re.findall(r"^(?:#\[[^\n]*\]\n)?pub (?:struct|enum) \w+ \{.*?^\}", text, re.S | re.M)
-    uses = [line for line in text.split("\n") if re.match(r"(pub )?(use|mod) ", line)]
-    kept = [line for line in uses if line.startswith("pub mod") or any(re.search(rf"\b{line.rstrip(';').split('::')[-1]}\b", item) for item in found)]
+    named = set(re.findall(r"\w+", "\n".join(found)))
+    kept = re.findall(r"^pub mod .*", text, re.M) + [line for line in imports(text) if line.rstrip(";").split("::")[-1] in named]
     return "\n".join(kept) + "\n\n" + "\n\n".join(found) + "\n"
 
 
