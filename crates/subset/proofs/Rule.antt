@@ -210,7 +210,7 @@ record Found (n m i : ℕ) (w : List ℕ) (c : Contribution) : Type 0 where
 
 member_found : (n m i : ℕ) (w : List ℕ) (c : Contribution) → Memᴰ c (contributions_from n m i w) → Found n m i w c
 unfolding contributions_from
-member_found n zero i w c h = absurd (Memᴰ.not_nil h)
+member_found n zero i w c h = absurd (Memᴰ.not-nil h)
 member_found n (suc m) i w c h = go (Memᴰ.cases_cons h) (member_found n m (i + 1) w c)
   where
     go : (c ≡ entry n w i) ⊎ Memᴰ c (contributions_from n m (i + 1) w) → (Memᴰ c (contributions_from n m (i + 1) w) → Found n m (i + 1) w c) → Found n (suc m) i w c
