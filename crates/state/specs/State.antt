@@ -25,8 +25,8 @@ faulty_at = 2
 abbrev pub ahead_at : ℕ
 ahead_at = 3
 
-abbrev pub field_own : ℕ
-field_own = 4
+abbrev pub own_at : ℕ
+own_at = 4
 
 abbrev pub key_at : ℕ
 key_at = 5
@@ -87,7 +87,7 @@ module _ (w : List ℕ) where
   ahead = get_or w ahead_at 0
 
   abbrev pub own : ℕ
-  own = get_or w field_own 0
+  own = get_or w own_at 0
 
   abbrev pub key : ℕ
   key = get_or w key_at 0
