@@ -35,14 +35,14 @@ use Rattle.proposal.specs.contracts.proposal_state.Outcome.{the_type as outcome_
 use Rattle.subset.specs.contracts.subset.Passing.{the_type as passing_type}
 
 -- the ways of an `if let Outcome::Value(value) =` and of a `let Passing::Done = x else` that are not taken
-pub no_output : (x : Outcome) → OneOf (0 ∷ 2 ∷ 3 ∷ []) (tag_of outcome_type x) → output_of x ≡ none
+pub no_output : (x : Outcome) → ((v : ℕ) → x ≡ Value v → ⊥) → output_of x ≡ none
 no_output Nothing h = refl
-no_output (Value v) h = absurd (miss (0 ∷ 2 ∷ 3 ∷ []) 1 tt h)
+no_output (Value v) h = absurd (h v refl)
 no_output Refused h = refl
 no_output (Failed n) h = refl
 
-pub not_passed : (x : Passing) → OneOf (1 ∷ 2 ∷ []) (tag_of passing_type x) → (a : Unit {0}) → passing_verdict x ≡ going a → ⊥
-not_passed Passes h a e = miss (1 ∷ 2 ∷ []) 0 tt h
+pub not_passed : (x : Passing) → (x ≡ Passes → ⊥) → (a : Unit {0}) → passing_verdict x ≡ going a → ⊥
+not_passed Passes h a e = h refl
 not_passed NotPassed h a e = let z : ◌≡◌ {A = ℕ} 0 1 = cc in omega arith
 not_passed (FailedPassing n) h a e = let z : ◌≡◌ {A = ℕ} 0 1 = cc in omega arith
 

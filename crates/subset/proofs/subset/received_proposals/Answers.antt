@@ -1,0 +1,12 @@
+use mathlib.Core.Path.{ap, ◌∙◌}
+use native.Mathlib.Omega.{arith}
+use lib.Count.{ones, ones-le}
+use borrow.Author.Rules.{rules}
+use Rattle.subset.proofs.Bits.{received_ones}
+use Rattle.subset.proofs.subset.received_proposals.Goals as goal
+
+pub overflow_cast-result : goal.overflow_cast-result
+overflow_cast-result c = omega (arith, ones-le 64 c.proposals_in-received.result (search rules))
+
+pub returns : goal.returns
+returns c = ap ones c.proposals_in-received.ensures ∙ received_ones _ _

@@ -1,0 +1,13 @@
+use mathlib.Core.Path.{◌∙◌}
+use borrow.Author.Rules.{rules}
+use Rattle.subset.specs.Subset.{contributed}
+use Rattle.subset.proofs.SubsetCode.{no_output}
+use Rattle.subset.proofs.subset.store_transition.Goals as goal
+
+pub returns-in-Value : goal.returns-in-Value
+unfolding contributed
+returns-in-Value c = c.add_contribution.ensures ∙ rw (c.store_proposal.ensures, c.in-Value.is)
+
+pub returns-in_default : goal.returns-in_default
+unfolding contributed
+returns-in_default c = rw (no_output c.args.moved.outcome c.in_default.not-Value) c.store_proposal.ensures

@@ -1,0 +1,16 @@
+use Prim.Native.Nat.{ℕ, ◌+◌, ◌-◌, ◌^◌, ◌≤◌}
+use mathlib.Core.Path.{◌≡◌, ap, ◌∙◌}
+use mathlib.Core.Bool.{Bool, cond}
+use native.Mathlib.Omega.{arith}
+use borrow.Author.Rules.{rules}
+use Rattle.steps.specs.Bits.{bits_from}
+use Rattle.subset.specs.Words.{proposal_tag}
+use Rattle.subset.specs.Bits.{tag_in, proposals_in}
+use Rattle.subset.proofs.WordsCode.{before_end, bits_turn, bits_done, bits_small, all_left}
+use Rattle.subset.proofs.words.proposals_in.Given as goal
+
+abbrev pub invariant-loop-p : goal.invariant-loop-p
+invariant-loop-p l = (l.p ≤ l.n) × (l.bits + bits_from (λ (i : ℕ). tag_in l.tags (proposal_tag l.size l.epoch i)) (l.n - l.p) l.p ≡ bits_from (λ (i : ℕ). tag_in l.tags (proposal_tag l.size l.epoch i)) l.n 0)
+
+abbrev pub decreases-loop-p : goal.decreases-loop-p
+decreases-loop-p l = l.n - l.p
