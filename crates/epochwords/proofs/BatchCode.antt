@@ -101,8 +101,8 @@ module _ (size n p readable : ℕ) (w : List ℕ) (t : Tape) where
       let e : n - p ≡ 0 = omega arith in
       rw e
 
-pub not_read : (x : Reading) → OneOf (1 ∷ []) (tag_of reading_type x) → (a : ℕ) → read_verdict x ≡ going a → ⊥
-not_read (Readable bits) h a e = miss (1 ∷ []) 0 tt h
+pub not_read : (x : Reading) → ((bits : ℕ) → x ≡ Readable bits → ⊥) → (a : ℕ) → read_verdict x ≡ going a → ⊥
+not_read (Readable bits) h a e = h bits refl
 not_read NotRead h a e = let z : ◌≡◌ {A = ℕ} 0 1 = cc in omega arith
 
 -- ENTRIES: one proposer more

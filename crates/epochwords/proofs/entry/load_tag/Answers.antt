@@ -1,0 +1,19 @@
+use native.Mathlib.Omega.{arith}
+use borrow.Author.Rules.{rules}
+use Rattle.epochwords.proofs.EntryCode.{within_record, epoch_small}
+use Rattle.epochwords.proofs.entry.load_tag.Goals as goal
+
+pub overflow_mul-result : goal.overflow_mul-result
+overflow_mul-result c = omega (arith, within_record c.args.n c.args.p 2 c.requires.1 (omega arith), epoch_small c.args.n c.requires.0.few, c.requires.0.few, c.requires.0.long)
+
+pub overflow_add-result-2 : goal.overflow_add-result-2
+overflow_add-result-2 c = omega (arith, within_record c.args.n c.args.p 2 c.requires.1 (omega arith), epoch_small c.args.n c.requires.0.few, c.requires.0.few, c.requires.0.long)
+
+pub overflow_add-result-3 : goal.overflow_add-result-3
+overflow_add-result-3 c = omega (arith, within_record c.args.n c.args.p 2 c.requires.1 (omega arith), epoch_small c.args.n c.requires.0.few, c.requires.0.few, c.requires.0.long)
+
+pub offset_bounds-epoch-p : goal.offset_bounds-epoch-p
+offset_bounds-epoch-p c = omega (arith, within_record c.args.n c.args.p 2 c.requires.1 (omega arith), epoch_small c.args.n c.requires.0.few, c.requires.0.few, c.requires.0.long)
+
+pub bounds-epoch-p : goal.bounds-epoch-p
+bounds-epoch-p c = omega (arith, within_record c.args.n c.args.p 2 c.requires.1 (omega arith), epoch_small c.args.n c.requires.0.few, c.requires.0.few, c.requires.0.long)

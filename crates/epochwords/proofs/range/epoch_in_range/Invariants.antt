@@ -1,0 +1,14 @@
+use Prim.Native.Nat.{◌+◌, ◌-◌, ◌≤◌}
+use mathlib.Core.Path.{◌≡◌, ◌∙◌}
+use mathlib.Core.Bool.{◌&&◌}
+use native.Mathlib.Omega.{arith}
+use Rattle.steps.proofs.BitLaws.{shifted}
+use Rattle.epochwords.proofs.BatchCode.{all_left}
+use Rattle.epochwords.proofs.RangeCode.{smalls_in_range, epoch_code, epoch_vacant, smalls_turn, smalls_over}
+use Rattle.epochwords.proofs.range.epoch_in_range.Given as goal
+
+abbrev pub invariant-loop-p : goal.invariant-loop-p
+invariant-loop-p l = (l.p ≤ l.n) × (l.ok && smalls_in_range l.n (l.n - l.p) l.p l.epoch ≡ l.initial.ok && smalls_in_range l.n l.n 0 l.epoch)
+
+abbrev pub decreases-loop-p : goal.decreases-loop-p
+decreases-loop-p l = l.n - l.p

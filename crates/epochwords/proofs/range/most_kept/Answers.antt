@@ -1,0 +1,11 @@
+use Rattle.epochwords.specs.Words.{most_kept}
+use borrow.Author.Rules.{rules}
+use Rattle.epochwords.proofs.range.most_kept.Goals as goal
+
+pub returns-in-Incremental : goal.returns-in-Incremental
+unfolding most_kept
+returns-in-Incremental c = rw c.in-Incremental.is
+
+pub returns-in-AllAtEnd : goal.returns-in-AllAtEnd
+unfolding most_kept
+returns-in-AllAtEnd c = rw c.in-AllAtEnd.is

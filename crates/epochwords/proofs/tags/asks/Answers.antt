@@ -1,0 +1,7 @@
+use mathlib.Core.Path.{refl}
+use Rattle.epochwords.specs.Words.{asks}
+use Rattle.epochwords.proofs.tags.asks.Goals as goal
+
+pub returns : goal.returns
+unfolding asks
+returns c = refl

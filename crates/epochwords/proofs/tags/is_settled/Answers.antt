@@ -1,0 +1,7 @@
+use mathlib.Core.Path.{refl}
+use Rattle.epochwords.specs.Words.{is_settled}
+use Rattle.epochwords.proofs.tags.is_settled.Goals as goal
+
+pub returns : goal.returns
+unfolding is_settled
+returns c = refl
