@@ -31,24 +31,24 @@ use Rattle.epoch.proofs.ListOfProposers.{kept_propose, kept_handle}
 use Rattle.subset.specs.contracts.subset.SubsetOutcome.{the_type as subset_type}
 
 -- the way of `is_done` that is taken for all but one
-pub not_ended : (x : SubsetOutcome) → OneOf (0 ∷ 2 ∷ 3 ∷ []) (tag_of subset_type x) → false ≡ ends_subset x
+pub not_ended : (x : SubsetOutcome) → (x ≡ SubsetDone → ⊥) → false ≡ ends_subset x
 not_ended Ongoing h = refl
-not_ended SubsetDone h = absurd (miss (0 ∷ 2 ∷ 3 ∷ []) 1 tt h)
+not_ended SubsetDone h = absurd (h refl)
 not_ended NotHandled h = refl
 not_ended (FailedHandling error) h = refl
 
 module _ (net : NetworkInfo) (strategy : SubsetHandlingStrategy) (encrypted : Bool) where
   -- WHAT A CALL OF THE SUBSET HANDED UP, by what it came to
   module _ (k : ℕ) (c : SubsetOutcome) (w : List ℕ) (t : Tape) where
-    pub up_goes : OneOf (0 ∷ 1 ∷ []) (tag_of subset_type c) → up_as net strategy encrypted k (handled_verdict c) w t ≡ process_subset net strategy encrypted (ends_subset c) w t
+    pub up_goes : (c ≡ NotHandled → ⊥) → ((error : ℕ) → c ≡ FailedHandling error → ⊥) → up_as net strategy encrypted k (handled_verdict c) w t ≡ process_subset net strategy encrypted (ends_subset c) w t
     unfolding handed_up onward onward_as
-    up_goes h = go c h
+    up_goes h j = go c h j
       where
-        go : (x : SubsetOutcome) → OneOf (0 ∷ 1 ∷ []) (tag_of subset_type x) → up_as net strategy encrypted k (handled_verdict x) w t ≡ process_subset net strategy encrypted (ends_subset x) w t
-        go Ongoing h = refl
-        go SubsetDone h = refl
-        go NotHandled h = absurd (miss (0 ∷ 1 ∷ []) 2 tt h)
-        go (FailedHandling error) h = absurd (miss (0 ∷ 1 ∷ []) 3 tt h)
+        go : (x : SubsetOutcome) → (x ≡ NotHandled → ⊥) → ((error : ℕ) → x ≡ FailedHandling error → ⊥) → up_as net strategy encrypted k (handled_verdict x) w t ≡ process_subset net strategy encrypted (ends_subset x) w t
+        go Ongoing h j = refl
+        go SubsetDone h j = refl
+        go NotHandled h j = absurd (h refl)
+        go (FailedHandling error) h j = absurd (j error refl)
 
     module _ (after : List ℕ) (cut : after ≡ first_contributions net.num_nodes k w) (o : Out) where
       pub up_refused : c ≡ NotHandled → left_of after Refused t o ≡ leaves o (up_as net strategy encrypted k (handled_verdict c) w t)

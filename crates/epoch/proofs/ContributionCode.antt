@@ -32,8 +32,8 @@ use Rattle.epochwords.proofs.EntryStored.{accept_word, store_low, store_subset}
 use Rattle.epoch.specs.contracts.epoch_state.Outcome.{the_type as outcome_type}
 
 -- the way of a `let Outcome::Done = x else` that is not taken
-pub not_done : (x : Outcome) → OneOf (1 ∷ 2 ∷ []) (tag_of outcome_type x) → (a : Unit {0}) → outcome_verdict x ≡ going a → ⊥
-not_done Done h a e = miss (1 ∷ 2 ∷ []) 0 tt h
+pub not_done : (x : Outcome) → (x ≡ Done → ⊥) → (a : Unit {0}) → outcome_verdict x ≡ going a → ⊥
+not_done Done h a e = h refl
 not_done Refused h a e = let z : ◌≡◌ {A = ℕ} 0 1 = cc in omega arith
 not_done (Failed n) h a e = let z : ◌≡◌ {A = ℕ} 0 1 = cc in omega arith
 

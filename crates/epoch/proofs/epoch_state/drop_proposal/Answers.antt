@@ -1,0 +1,30 @@
+use native.Mathlib.Omega.{arith}
+use borrow.Author.Rules.{rules}
+use lib.ListN.{length-set}
+use Rattle.epochwords.proofs.EntryCode.{within_record, epoch_small}
+use Rattle.epoch.proofs.FinishCode.{dropped}
+use Rattle.epoch.proofs.epoch_state.drop_proposal.Goals as goal
+
+pub overflow_mul-at : goal.overflow_mul-at
+overflow_mul-at c = omega (arith, within_record c.args.n c.args.p 7 c.requires.1 (omega arith), epoch_small c.args.n c.requires.0.few, c.requires.0.few, c.requires.0.long)
+
+pub overflow_add-at-2 : goal.overflow_add-at-2
+overflow_add-at-2 c = omega (arith, within_record c.args.n c.args.p 7 c.requires.1 (omega arith), epoch_small c.args.n c.requires.0.few, c.requires.0.few, c.requires.0.long)
+
+pub offset_bounds-epoch-at : goal.offset_bounds-epoch-at
+offset_bounds-epoch-at c = omega (arith, within_record c.args.n c.args.p 7 c.requires.1 (omega arith), epoch_small c.args.n c.requires.0.few, c.requires.0.few, c.requires.0.long)
+
+pub bounds-epoch-at : goal.bounds-epoch-at
+bounds-epoch-at c = omega (arith, within_record c.args.n c.args.p 7 c.requires.1 (omega arith), epoch_small c.args.n c.requires.0.few, c.requires.0.few, c.requires.0.long)
+
+pub overflow_add-epoch : goal.overflow_add-epoch
+overflow_add-epoch c = omega (arith, within_record c.args.n c.args.p 7 c.requires.1 (omega arith), epoch_small c.args.n c.requires.0.few, c.requires.0.few, c.requires.0.long)
+
+pub offset_bounds-epoch-at-2 : goal.offset_bounds-epoch-at-2
+offset_bounds-epoch-at-2 c = omega (arith, within_record c.args.n c.args.p 7 c.requires.1 (omega arith), epoch_small c.args.n c.requires.0.few, c.requires.0.few, c.requires.0.long)
+
+pub bounds-epoch-at-2 : goal.bounds-epoch-at-2
+bounds-epoch-at-2 c = simp length-set (omega (arith, within_record c.args.n c.args.p 7 c.requires.1 (omega arith), epoch_small c.args.n c.requires.0.few, c.requires.0.few, c.requires.0.long))
+
+pub returns : goal.returns
+returns c = dropped c.args.n c.args.p c.args.epoch.now

@@ -1,0 +1,15 @@
+use mathlib.Core.Path.{◌≡◌, sym, ap, ◌∙◌}
+use mathlib.Core.Bool.{true, false}
+use native.Mathlib.Omega.{arith}
+use borrow.Author.Rules.{rules}
+use Rattle.epochwords.specs.Words.{is_accepted}
+use Rattle.epoch.proofs.FinishCode.{finish_accepted, finish_other}
+use Rattle.epoch.proofs.epoch_state.finish_at.Goals as goal
+
+pub returns-then-has_bit : goal.returns-then-has_bit
+unfolding is_accepted
+returns-then-has_bit c = λ t. finish_accepted _ _ _ t _ (sym c.has_bit.ensures ∙ c.if-has_bit.true) _ c.drop_proposal.ensures
+
+pub returns : goal.returns
+unfolding is_accepted
+returns c = λ t. finish_other _ _ _ t _ (sym c.has_bit.ensures ∙ c.if-has_bit.false) _ c.unexpected_shares-faulted.ensures _ c.drop_proposal-2.ensures _ (c.store_entry.ensures ∙ rw c.new.ensures)

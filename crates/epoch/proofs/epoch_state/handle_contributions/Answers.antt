@@ -1,0 +1,20 @@
+use mathlib.Core.Path.{sym, ap, ◌∙◌}
+use borrow.Author.Rules.{rules}
+use Rattle.steps.proofs.RunsInParts.{leaves_inside}
+use Rattle.epochwords.specs.declared.SubsetHandlingStrategy.TheVariants.{Incremental}
+use Rattle.epoch.specs.Epoch.{first_contributions, handle_contributions}
+use Rattle.epoch.proofs.ContributionCode.{kept_from}
+use Rattle.epoch.proofs.epoch_state.handle_contributions.Goals as goal
+
+pub first_contributions-requires : goal.first_contributions-requires
+first_contributions-requires c = (record { few = c.requires.1.few; long = c.handle_each-handled.auto.epoch ∙ c.requires.1.long }, kept_from _ Incremental _ _ _ _ _ _ _ (c.handle_each-handled.ensures Incremental) c.requires.2)
+
+pub shape_of-epoch : goal.shape_of-epoch
+shape_of-epoch c = c.first_contributions.auto.epoch ∙ c.handle_each-handled.auto.epoch
+
+pub shape_of-words : goal.shape_of-words
+shape_of-words c = c.handle_each-handled.auto.words
+
+pub returns : goal.returns
+unfolding handle_contributions
+returns c = λ s. rw c.first_contributions.ensures (leaves_inside (first_contributions c.args.net.num_nodes 0) _ _ _ (c.handle_each-handled.ensures s))

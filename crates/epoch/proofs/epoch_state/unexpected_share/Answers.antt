@@ -1,0 +1,11 @@
+use mathlib.Core.Path.{sym, ◌∙◌}
+use borrow.Author.Rules.{rules}
+use borrow.Author.Tests.{not-true, not-false}
+use Rattle.epoch.proofs.FinishCode.{unexpected_some, unexpected_none}
+use Rattle.epoch.proofs.epoch_state.unexpected_share.Goals as goal
+
+pub returns-then-not-is_sender : goal.returns-then-not-is_sender
+returns-then-not-is_sender c = unexpected_none _ _ _ (sym c.is_sender.ensures ∙ not-true _ c.if-not-is_sender.true-raw)
+
+pub returns : goal.returns
+returns c = unexpected_some _ _ _ (sym c.is_sender.ensures ∙ not-false _ c.if-not-is_sender.false-raw) _ c.fault.ensures

@@ -1,0 +1,7 @@
+use borrow.Author.Rules.{rules}
+use Rattle.state.specs.State.{scratch_length}
+use Rattle.state.proofs.range.scratch_length.Goals as goal
+
+pub returns : goal.returns
+unfolding scratch_length
+returns c = c.requires.long

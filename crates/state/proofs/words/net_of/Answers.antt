@@ -1,0 +1,8 @@
+use mathlib.Core.Path.{refl}
+use borrow.Author.Rules.{rules}
+use Rattle.state.specs.State.{net_of}
+use Rattle.state.proofs.words.net_of.Goals as goal
+
+pub returns : goal.returns
+unfolding net_of
+returns c = refl
