@@ -136,7 +136,7 @@ all_append H (x ∷ a) b h k = (h.0, all_append H a b h.1 k)
 
 pub all_at : (H : Batch → List Rec → Type 0) (l : List Handed) (x : Handed) → AllHanded H l → Memᴰ x l → H x.batch x.thirteens
 unfolding AllHanded
-all_at H [] x h m = absurd (Memᴰ.not_nil m)
+all_at H [] x h m = absurd (Memᴰ.not-nil m)
 all_at H (y ∷ l) x h m = go (all_at H l x h.1) (Memᴰ.cases_cons m)
   where
     go : (Memᴰ x l → H x.batch x.thirteens) → (x ≡ y) ⊎ Memᴰ x l → H x.batch x.thirteens
@@ -179,7 +179,7 @@ module _ (n f : ℕ) (encrypted : ℕ → Bool) (h : List Event) where
 
   pub all_dealt : (xs : List Event) → AllDealt InAll xs → (x : Event) → Memᴰ x xs → DealtAll x
   unfolding AllDealt
-  all_dealt [] a x m = absurd (Memᴰ.not_nil m)
+  all_dealt [] a x m = absurd (Memᴰ.not-nil m)
   all_dealt (y ∷ xs) a x m = go (all_dealt xs a.1 x) (Memᴰ.cases_cons m)
     where
       go : (Memᴰ x xs → DealtAll x) → (x ≡ y) ⊎ Memᴰ x xs → DealtAll x
@@ -201,7 +201,7 @@ rising_names is (suc m) p = go (is p) (rising_names is m (p + 1))
     go false r = rising_weak p (p + 1) (names_from is m (p + 1)) (omega arith) r
 
 rising_least : (k p : ℕ) (xs : List ℕ) → Rising k xs → Memᴰ p xs → k ≤ p
-rising_least k p [] r m = absurd (Memᴰ.not_nil m)
+rising_least k p [] r m = absurd (Memᴰ.not-nil m)
 rising_least k p (x ∷ xs) r m = go (Memᴰ.cases_cons m) (rising_least (x + 1) p xs r.1)
   where
     go : (p ≡ x) ⊎ Memᴰ p xs → (Memᴰ p xs → x + 1 ≤ p) → k ≤ p
@@ -221,7 +221,7 @@ module _ (is : ℕ → Bool) where
 
   names_only : (m p q : ℕ) → Memᴰ q (names_from is m p) → (q < p + m) × (is q ≡ true)
   unfolding names_from
-  names_only zero p q m = absurd (Memᴰ.not_nil m)
+  names_only zero p q m = absurd (Memᴰ.not-nil m)
   names_only (suc m) p q k = go (is p) refl k (names_only m (p + 1) q)
     where
       go : (t : Bool) → is p ≡ t → Memᴰ q (cond t (p ∷ []) [] ++ names_from is m (p + 1))
@@ -232,7 +232,7 @@ module _ (is : ℕ → Bool) where
 module _ (text : ℕ → ℕ) (p : ℕ) where
   who_split : (rs : List Rec) → Memᴰ p (names_of rs) → Memᴰ p (proposers_in (entries_of text rs)) ⊎ Memᴰ p (unreadable_in rs)
   unfolding names_of entries_of proposers_in unreadable_in
-  who_split [] m = absurd (Memᴰ.not_nil m)
+  who_split [] m = absurd (Memᴰ.not-nil m)
   who_split (r ∷ rs) m = go (eqb r.a 0) (Memᴰ.cases_cons m) (who_split rs)
     where
       go : (t : Bool) → (p ≡ r.b) ⊎ Memᴰ p (names_of rs) → (Memᴰ p (names_of rs) → Memᴰ p (proposers_in (entries_of text rs)) ⊎ Memᴰ p (unreadable_in rs))
@@ -244,7 +244,7 @@ module _ (text : ℕ → ℕ) (p : ℕ) where
 
   who_left : (rs : List Rec) → Memᴰ p (proposers_in (entries_of text rs)) → Memᴰ p (names_of rs)
   unfolding names_of entries_of proposers_in
-  who_left [] m = absurd (Memᴰ.not_nil m)
+  who_left [] m = absurd (Memᴰ.not-nil m)
   who_left (r ∷ rs) m = go (eqb r.a 0) m (who_left rs)
     where
       go : (t : Bool) → Memᴰ p (proposers_in (cond t [] (record { proposer = r.b; plaintext = text r.b } ∷ []) ++ entries_of text rs))
@@ -254,7 +254,7 @@ module _ (text : ℕ → ℕ) (p : ℕ) where
 
   who_right : (rs : List Rec) → Memᴰ p (unreadable_in rs) → Memᴰ p (names_of rs)
   unfolding names_of unreadable_in
-  who_right [] m = absurd (Memᴰ.not_nil m)
+  who_right [] m = absurd (Memᴰ.not-nil m)
   who_right (r ∷ rs) m = go (eqb r.a 0) m (who_right rs)
     where
       go : (t : Bool) → Memᴰ p (cond t (r.b ∷ []) [] ++ unreadable_in rs) → (Memᴰ p (unreadable_in rs) → Memᴰ p (names_of rs)) → Memᴰ p (r.b ∷ names_of rs)
@@ -263,7 +263,7 @@ module _ (text : ℕ → ℕ) (p : ℕ) where
 
   who_apart : (k : ℕ) (rs : List Rec) → Rising k (names_of rs) → Memᴰ p (proposers_in (entries_of text rs)) → Memᴰ p (unreadable_in rs) → ⊥
   unfolding names_of entries_of proposers_in unreadable_in
-  who_apart k [] r m u = Memᴰ.not_nil m
+  who_apart k [] r m u = Memᴰ.not-nil m
   who_apart k (x ∷ rs) r m u = go (eqb x.a 0) m u (who_apart (x.b + 1) rs r.1)
     where
       late : Memᴰ p (names_of rs) → p ≡ x.b → ⊥

@@ -11,7 +11,7 @@ use lib.ListN.{length, get_or, set, length-set, length-replicate}
 use borrow.Author.Tests.{eqb-true, eq-eqb, ltb-true, ltb-false, le-leb, lt-leb}
 use Rattle.network.specs.declared.network_info.NetworkInfo.{NetworkInfo}
 use Rattle.network.specs.Network.{Network, is_validator}
-use Rattle.steps.specs.Answers.{Rec, Tape, tape}
+use Rattle.steps.specs.Answers.{Rec, Tape}
 use Rattle.steps.specs.Table.{within}
 use Rattle.steps.specs.Steps.{Entry, fault, item, faults, outputs}
 use Rattle.steps.specs.Runs.{going, Run, ends, onward, inside}

@@ -47,7 +47,7 @@ all_state w [] k = refl
 all_state w (x ∷ xs) k = all_state x.state xs k.1 ∙ ap (λ v. state_after_all v (calls_seen xs)) (call_state w x.call x k.0)
 
 all_ok : (w : List ℕ) (xs : List Seen) → state_ok w ≡ true → KeepAll w xs → (x : Seen) → Memᴰ x xs → state_ok x.state ≡ true
-all_ok w [] ok k x m = absurd (Memᴰ.not_nil m)
+all_ok w [] ok k x m = absurd (Memᴰ.not-nil m)
 all_ok w (y ∷ xs) ok k x m =
     let okʹ : state_ok y.state ≡ true = subst (λ (v : List ℕ). state_ok v ≡ true) (sym (call_state w y.call y k.0)) (calls_in_range w y.call ok) in
     ⊎_elim (λ (e : x ≡ y). rw e okʹ) (all_ok y.state xs okʹ k.1 x) (Memᴰ.cases_cons m)

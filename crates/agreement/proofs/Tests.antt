@@ -40,7 +40,7 @@ every test (x ∷ xs) = both (test x) (every test xs)
 
 every_at : {A : Type 0} (test : A → Bool) (xs : List A) → every test xs ≡ true → (x : A) → Memᴰ x xs → test x ≡ true
 unfolding every
-every_at test [] h x m = absurd (Memᴰ.not_nil m)
+every_at test [] h x m = absurd (Memᴰ.not-nil m)
 every_at test (y ∷ ys) h x m = go (every_at test ys (right _ _ h) x) (Memᴰ.cases_cons m)
   where
     go : (Memᴰ x ys → test x ≡ true) → (x ≡ y) ⊎ Memᴰ x ys → test x ≡ true

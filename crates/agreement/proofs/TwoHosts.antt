@@ -1,5 +1,5 @@
 -- Two hosts whose values, decisions and readings are alike hand out the same batch of an epoch. Assumes nothing.
-use Prim.Native.Nat.{ℕ, ◌+◌, ◌<◌}
+use Prim.Native.Nat.{ℕ, ◌<◌}
 use native.Mathlib.Omega.{arith}
 use mathlib.Core.Path.{◌≡◌, refl, sym, ap, ◌∙◌}
 use mathlib.Core.Logic.{◌⊎◌, inl, inr}
@@ -81,7 +81,7 @@ at_13 text r y s i e = rw (← i, e)
 
 found_13 : (text : ℕ → Option ℕ) (rs : List Rec) (r : Rec) (s : ℕ) → Memᴰ r rs → text r.b ≡ some s → Memᴰ (reading 13 s r.a r.b) (readings_of13 text rs)
 unfolding readings_of13
-found_13 text [] r s m e = absurd (Memᴰ.not_nil m)
+found_13 text [] r s m e = absurd (Memᴰ.not-nil m)
 found_13 text (y ∷ rs) r s m e = go (Memᴰ.cases_cons m) (λ k. found_13 text rs r s k e)
   where
     go : (r ≡ y) ⊎ Memᴰ r rs → (Memᴰ r rs → Memᴰ (reading 13 s r.a r.b) (readings_of13 text rs))
@@ -92,7 +92,7 @@ found_13 text (y ∷ rs) r s m e = go (Memᴰ.cases_cons m) (λ k. found_13 text
 found_batch : (encrypted : ℕ → Bool) (h : List Event) (hs : List Handed) (x : Handed) (y : Reading) → Memᴰ x hs
     → Memᴰ y (readings_of13 (plaintext encrypted h x.batch.epoch) x.thirteens) → Memᴰ y (readings_of_batches encrypted h hs)
 unfolding readings_of_batches
-found_batch encrypted h [] x y m k = absurd (Memᴰ.not_nil m)
+found_batch encrypted h [] x y m k = absurd (Memᴰ.not-nil m)
 found_batch encrypted h (z ∷ hs) x y m k = go (Memᴰ.cases_cons m) (λ i. found_batch encrypted h hs x y i k)
   where
     go : (x ≡ z) ⊎ Memᴰ x hs → (Memᴰ x hs → Memᴰ y (readings_of_batches encrypted h hs))
@@ -103,7 +103,7 @@ found_batch encrypted h (z ∷ hs) x y m k = go (Memᴰ.cases_cons m) (λ i. fou
 -- EQUAL 13s
 name_in : (rs : List Rec) (r : Rec) → Memᴰ r rs → Memᴰ r.b (names_of rs)
 unfolding names_of
-name_in [] r m = absurd (Memᴰ.not_nil m)
+name_in [] r m = absurd (Memᴰ.not-nil m)
 name_in (y ∷ rs) r m = go (Memᴰ.cases_cons m) (name_in rs r)
   where
     go : (r ≡ y) ⊎ Memᴰ r rs → (Memᴰ r rs → Memᴰ r.b (names_of rs)) → Memᴰ r.b (y.b ∷ names_of rs)

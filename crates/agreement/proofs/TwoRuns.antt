@@ -1,5 +1,5 @@
 -- DEMAND 3: the claim about two whole lists of calls, for any `Holds` that has the laws of Interface.antt and Occupied.antt in `epoch`, which are parameters here. Assumes nothing.
-use Prim.Native.Nat.{ℕ, ◌-◌}
+use Prim.Native.Nat.{ℕ}
 use native.Mathlib.Omega.{arith}
 use mathlib.Core.Path.{◌≡◌, refl, sym, ap, subst, subst₃, fun_ext}
 use mathlib.Core.List.{List}
@@ -15,7 +15,7 @@ use Rattle.epochwords.specs.Words.{is_vacant}
 use Rattle.epoch.proofs.Interface.{EpochLaws}
 use Rattle.state.specs.declared.EncryptionSchedule.TheVariants.{Always, Never, EveryNthEpoch, TickTock}
 use Rattle.state.specs.Schedule.{schedule_of, used_first, used_second, use_on_epoch}
-use Rattle.state.specs.State.{nodes, net_of, encrypted_in, epoch_words}
+use Rattle.state.specs.State.{net_of, encrypted_in, epoch_words}
 use Rattle.engine.specs.Create.{Numbers, numbers_ok, created, create_reply, create_state}
 use Rattle.agreement.specs.History.{Event, history, turns, none_fails, handed}
 use Rattle.agreement.specs.Demand3.{One, Made, history_of, encrypted_of, Sound, TwoRuns}

@@ -11,7 +11,7 @@ use Rattle.steps.specs.Taken.{or_else, is_there, is_true, first_taken, of_value,
 use Rattle.subset.specs.Rule.{is_over}
 use Rattle.epochwords.specs.declared.SubsetHandlingStrategy.{SubsetHandlingStrategy}
 use Rattle.epochwords.specs.Words.{is_complete, is_accepted, load_decryption}
-use Rattle.state.specs.State.{nodes, ahead, current_epoch, net_of, strategy_of, epoch_words, state_ok}
+use Rattle.state.specs.State.{ahead, current_epoch, net_of, strategy_of, epoch_words, state_ok}
 use Rattle.engine.specs.Create.{Numbers, create_reply, create_state}
 use Rattle.agreement.specs.History.{Call, state_after, Event, value_taken, decision_taken, plaintext, Handed, handed}
 use Rattle.agreement.specs.Demand3.{Made, Sound, history_of, encrypted_of}

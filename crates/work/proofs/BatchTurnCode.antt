@@ -80,9 +80,9 @@ module _ (n : ℕ) (words : ℕ → List ℕ) (m e : ℕ) (p : Tape) (o : Out) (
   pub tried_goes : d.verdict ≡ going true → leaves d.out (batches_from n words m (e + 1) d.tape) ≡ leaves o (batches_from n words (suc m) e p)
   tried_goes = turn.0
 
-  pub tried_stops : (x : Trial) → OneOf (0 ∷ 2 ∷ []) (tag_of trial_type x) → d.verdict ≡ tried_verdict x
+  pub tried_stops : (x : Trial) → (x ≡ Done → ⊥) → d.verdict ≡ tried_verdict x
       → record { state = e; verdict = batches_verdict x; tape = d.tape; out = d.out } ≡ leaves o (batches_from n words (suc m) e p)
-  tried_stops Done h z = absurd (miss (0 ∷ 2 ∷ []) 1 tt h)
+  tried_stops Done h z = absurd (h refl)
   tried_stops NotReady h z = rw z at (turn.1 (λ y. let u : ◌≡◌ {A = ℕ} 0 1 = cc in omega arith))
   tried_stops Refused h z = rw z at (turn.1 (λ y. let u : ◌≡◌ {A = ℕ} 0 1 = cc in omega arith))
 

@@ -82,10 +82,10 @@ module _ (n : ℕ) (body : List ℕ → Tape → Run (List ℕ) (Unit {0})) (w :
   call_goes g = onward_go (leaves o (left_built v x q)) o (built n w p) (λ _ x q. body x q) (ap (leaves o) left) tt g
 
 -- THE RUN, after its call left d, and the batches l: it is done, unless the batches were refused
-pub not_refused : (v : Trial) → OneOf (0 ∷ 1 ∷ []) (tag_of trial_type v) → batches_verdict v ≡ going tt
+pub not_refused : (v : Trial) → (v ≡ Refused → ⊥) → batches_verdict v ≡ going tt
 not_refused NotReady h = refl
 not_refused Done h = refl
-not_refused Refused h = absurd (miss (0 ∷ 1 ∷ []) 2 tt h)
+not_refused Refused h = absurd (h refl)
 
 pub run_goes : (w : List ℕ) (e : ℕ) (body : List ℕ → Tape → Run (List ℕ) (Unit {0})) (p : Tape) (o : Out)
     (d : Left (List ℕ) (Unit {0})) → d ≡ leaves o (epoch_call (nodes w) body (epoch_words w e) p) → d.verdict ≡ going tt

@@ -1,0 +1,5 @@
+use borrow.Author.Rules.{rules}
+use Rattle.work.proofs.commit.note_input.Goals as goal
+
+pub returns-in-Propose : goal.returns-in-Propose
+returns-in-Propose c = rw c.in-Propose.is
