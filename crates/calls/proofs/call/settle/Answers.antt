@@ -1,0 +1,28 @@
+use mathlib.Core.Path.{refl, sym, ◌∙◌}
+use native.Mathlib.Omega.{arith}
+use borrow.Author.Rules.{rules}
+use lib.Seq.{length-take-le}
+use Rattle.state.proofs.WordsCode.{header_inside}
+use Rattle.state.proofs.RangeCode.{ok_words}
+use Rattle.calls.specs.Calls.{zeroed}
+use Rattle.calls.proofs.CallCode.{epoch_fits, zeroed_part, after_same}
+use Rattle.calls.proofs.call.settle.Goals as goal
+
+pub bounds-state-1 : goal.bounds-state-1
+bounds-state-1 c = omega (arith, header_inside c.args.state.now (ok_words c.args.state.now c.requires.ok))
+
+pub epoch_length-size-requires : goal.epoch_length-size-requires
+epoch_length-size-requires c = (ok_words c.args.state.now c.requires.ok).few
+
+pub slice_bounds-run_twice-end : goal.slice_bounds-run_twice-end
+slice_bounds-run_twice-end c = omega (arith, epoch_fits c.args.state.now c.requires.ok, c.epoch_length-size.ensures, c.requires.room)
+
+pub slice_bounds-run_twice-end-2 : goal.slice_bounds-run_twice-end-2
+slice_bounds-run_twice-end-2 c = sym (length-take-le c.epoch_length-size.result c.args.scratch.now (omega (arith, epoch_fits c.args.state.now c.requires.ok, c.epoch_length-size.ensures, c.requires.room)))
+
+pub run_twice-requires : goal.run_twice-requires
+run_twice-requires c = record { ok = c.requires.ok; good = c.requires.good; long = (length-take-le c.epoch_length-size.result c.args.scratch.now (omega (arith, epoch_fits c.args.state.now c.requires.ok, c.epoch_length-size.ensures, c.requires.room))) ∙ c.epoch_length-size.ensures; nodes = c.requires.nodes; first = c.requires.first }
+
+pub returns : goal.returns
+returns c = after_same c.run_twice.result _ _ _ _ _ _ refl (zeroed_part c.args.state.now c.args.scratch.now c.run_twice.new.words c.epoch_length-size.result (c.run_twice.auto.words ∙ (length-take-le c.epoch_length-size.result c.args.scratch.now (omega (arith, epoch_fits c.args.state.now c.requires.ok, c.epoch_length-size.ensures, c.requires.room)))) (omega (arith, epoch_fits c.args.state.now c.requires.ok, c.epoch_length-size.ensures, c.requires.room))) refl
+    ∙ c.run_twice.ensures (zeroed c.args.state.now c.args.scratch.now)
