@@ -1,0 +1,10 @@
+use borrow.Author.Rules.{rules}
+use Rattle.engine.specs.Shape.{numbers_of}
+use Rattle.engine.proofs.CreateCode.{numbers_off, numbers_joined}
+use Rattle.engine.proofs.create.Numbers.are_ok.Goals as goal
+
+pub returns-then-f-gt-NODE_LIMIT : goal.returns-then-f-gt-NODE_LIMIT
+returns-then-f-gt-NODE_LIMIT c = numbers_off (numbers_of c.args.self) c.if-f-gt-NODE_LIMIT.true
+
+pub returns : goal.returns
+returns c = numbers_joined (numbers_of c.args.self) _ c.schedule_ok.ensures
