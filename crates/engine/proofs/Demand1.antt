@@ -11,7 +11,7 @@ use borrow.Author.Tests.{eqb-true, lt-leb, ne_eqb}
 use Rattle.steps.specs.Numbers.{last_epoch}
 use Rattle.steps.specs.Answers.{tape_of}
 use Rattle.steps.specs.Runs.{Verdict, going, refused, failed, number_of, Run}
-use Rattle.state.specs.State.{nodes, current_epoch, fault_count, scratch_of, state_length, state_ok}
+use Rattle.state.specs.State.{current_epoch, fault_count, scratch_of, state_length, state_ok}
 use Rattle.work.specs.HoneyBadger.{skip_to_epoch, has_input, received_proposals}
 use Rattle.calls.specs.Calls.{After, after, zeroed, is_end, conclude_as, conclude, propose_after, propose_call, message_call, skip_reply, skip_state, query_reply, current_epoch_result, has_input_result, received_proposals_result, fault_count_result}
 use Rattle.engine.specs.Create.{Numbers, numbers_ok, create_reply, create_state}

@@ -1,12 +1,10 @@
 -- Calls of the subset, a proposal and a message: what the code leaves, case by case. Assumes nothing.
 use Prim.Native.Nat.{ℕ}
 use mathlib.Core.Path.{◌≡◌, refl, sym, ◌∙◌}
-use mathlib.Core.List.{List, [], ◌∷◌}
+use mathlib.Core.List.{List, []}
 use mathlib.Core.Bool.{Bool, true, false, cond}
 use lib.Dec.{eqb}
 use borrow.Author.Tests.{eq-eqb, ne_eqb}
-use types.Run.{OneOf, miss}
-use denote.Enum.Declared.{tag_of}
 use Rattle.network.specs.declared.network_info.NetworkInfo.{NetworkInfo}
 use Rattle.steps.specs.declared.reader.Answer.{Answer}
 use Rattle.steps.specs.declared.reader.Answer.TheVariants.{Got, Refused as NoAnswer}
@@ -28,7 +26,6 @@ use Rattle.epoch.specs.declared.epoch_state.SubsetInput.TheVariants.{Proposal, M
 use Rattle.epoch.specs.Outcomes.{left_of, up_as, ends_subset, serialised, subset_call, subset_run, Names}
 use Rattle.epochwords.specs.Shape.{Listed}
 use Rattle.epoch.proofs.ListOfProposers.{kept_propose, kept_handle}
-use Rattle.subset.specs.contracts.subset.SubsetOutcome.{the_type as subset_type}
 
 -- the way of `is_done` that is taken for all but one
 pub not_ended : (x : SubsetOutcome) → (x ≡ SubsetDone → ⊥) → false ≡ ends_subset x

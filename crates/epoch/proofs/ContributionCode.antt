@@ -8,8 +8,6 @@ use lib.ListN.{length, get_or, set, drop, replicate, length-replicate}
 use lib.Seq.{get_or-set_same, get_or-set_other, set_out, set_at, drop-cons, drop-length}
 use lib.Dec.{eqb, ltb}
 use borrow.Author.Tests.{eqb-true, eqb-false, ltb-true, ltb-false}
-use types.Run.{OneOf, miss}
-use denote.Enum.Declared.{tag_of}
 use Rattle.network.specs.declared.network_info.NetworkInfo.{NetworkInfo}
 use Rattle.steps.specs.Answers.{Tape}
 use Rattle.steps.specs.Steps.{Out, put_all}
@@ -29,7 +27,6 @@ use Rattle.steps.proofs.Logic.{anything}
 use Rattle.steps.proofs.StateKept.{still}
 use Rattle.epoch.proofs.Walk.{Handles, holds, handles_hold, contribution_keeps, handle_from_keeps}
 use Rattle.epochwords.proofs.EntryStored.{accept_word, store_low, store_subset}
-use Rattle.epoch.specs.contracts.epoch_state.Outcome.{the_type as outcome_type}
 
 -- the way of a `let Outcome::Done = x else` that is not taken
 pub not_done : (x : Outcome) → (x ≡ Done → ⊥) → (a : Unit {0}) → outcome_verdict x ≡ going a → ⊥

@@ -11,7 +11,7 @@ use Rattle.steps.specs.declared.reader.Answer.{Answer}
 use Rattle.steps.specs.declared.reader.Answer.TheVariants.{Got, Refused as NoAnswer}
 use Rattle.steps.specs.Answers.{Tape, asked, ask_about}
 use Rattle.steps.specs.Steps.{Entry, Out, put_entry, put_all, fault}
-use Rattle.steps.specs.Runs.{Verdict, going, refused, failed, Run, ends, before, onward_as, onward, Left, leaves}
+use Rattle.steps.specs.Runs.{Verdict, going, refused, failed, Run, ends, onward_as, onward, Left, leaves}
 use Rattle.steps.proofs.RunLaws.{leaves_before, heard_got, heard_none}
 use Rattle.decryption.specs.declared.ThresholdDecrypt.{ThresholdDecrypt}
 use Rattle.decryption.specs.declared.SetCiphertext.{SetCiphertext}

@@ -10,12 +10,12 @@ use borrow.Author.Tests.{ne_eqb}
 use Rattle.network.specs.declared.network_info.NetworkInfo.{NetworkInfo}
 use Rattle.steps.specs.Answers.{Tape}
 use Rattle.steps.specs.Steps.{Out, put_entry, put_all, fault}
-use Rattle.steps.specs.Runs.{going, ends, before, leaves}
+use Rattle.steps.specs.Runs.{going, ends, leaves}
 use Rattle.steps.proofs.ChainLaws.{put_all_append}
 use Rattle.steps.proofs.RunLaws.{leaves_before, onward_go}
 use Rattle.decryption.specs.declared.ThresholdDecrypt.{ThresholdDecrypt}
 use Rattle.decryption.specs.Decrypt.{new, is_sender}
-use Rattle.epochwords.specs.Words.{is_accepted, missing, ongoing, complete, decryption_at, plaintext_at, load_instance, load_decryption, store_entry, store_decryption, entry_none, entry_ongoing}
+use Rattle.epochwords.specs.Words.{is_accepted, missing, complete, decryption_at, plaintext_at, load_instance, load_decryption, store_entry, store_decryption, entry_none, entry_ongoing}
 use Rattle.epoch.specs.Epoch.{unexpected_from, unexpected_shares, proposal_dropped, finish_at, finish_from}
 use Rattle.epoch.specs.Outcomes.{left_done}
 

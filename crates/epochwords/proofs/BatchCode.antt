@@ -1,15 +1,13 @@
 -- Laws for the code that hands out a batch: its tests and loops, case by case. Assumes nothing.
 use Prim.Native.Nat.{ℕ, suc, ◌+◌, ◌-◌, ◌≤◌, ◌<◌}
 use mathlib.Core.Path.{◌≡◌, refl, sym, ◌∙◌}
-use mathlib.Core.List.{List, [], ◌∷◌}
+use mathlib.Core.List.{List, ◌∷◌}
 use mathlib.Core.Bool.{Bool, true, false, cond, ◌&&◌, not}
 use native.Mathlib.Omega.{arith}
 use native.Mathlib.Nat.{mul-le-mul_right, suc-mul}
 use lib.ListN.{length}
 use lib.Count.{ones}
 use borrow.Author.Tests.{eq-eqb, ne_eqb}
-use types.Run.{OneOf, miss}
-use denote.Enum.Declared.{tag_of}
 use Rattle.steps.specs.Numbers.{node_limit, contribution_reads, batch_deserialization_failed, batch_output, entry_output}
 use Rattle.steps.specs.declared.reader.Answer.{Answer}
 use Rattle.steps.specs.declared.reader.Answer.TheVariants.{Got, Refused as NoAnswer}
@@ -26,7 +24,6 @@ use Rattle.epochwords.specs.BatchOutcomes.{Records, read_verdict}
 use Rattle.epochwords.specs.declared.batch.Reading.{Reading}
 use Rattle.epochwords.specs.declared.batch.Reading.TheVariants.{Readable, Refused as NotRead}
 use Rattle.epochwords.proofs.Readable.{entries_ones}
-use Rattle.epochwords.specs.contracts.batch.Reading.{the_type as reading_type}
 
 -- before the first turn of a loop, n are left
 pub all_left : (n : ℕ) → n - 0 ≡ n

@@ -11,7 +11,7 @@ use borrow.Author.Tests.{eqb-true, eqb-false, ne_eqb, leb-true, ltb-true, lt-leb
 use Rattle.steps.specs.declared.reader.Content.{Content}
 use Rattle.steps.specs.declared.reader.Output.{Output}
 use Rattle.steps.specs.declared.reader.Output.TheVariants.{Missing, Value}
-use Rattle.steps.specs.Answers.{Rec, tape, rec_at, chain, tape_of}
+use Rattle.steps.specs.Answers.{Rec, rec_at, chain, tape_of}
 use Rattle.steps.specs.Table.{within, handle, record_ok, context_after, word, link_ok, may_follow, chain_ok, shape_ok, table_ok}
 use Rattle.steps.specs.Parts.{is_part, output_of, last_of, last_output, parts_from}
 use Rattle.steps.specs.Taken.{or_else, last_output_in, first_taken, is_asked}

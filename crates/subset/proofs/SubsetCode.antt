@@ -2,21 +2,19 @@
 use Prim.Native.Nat.{ℕ, suc, ◌+◌, ◌-◌, ◌≤◌, ◌<◌}
 use native.Mathlib.Omega.{arith}
 use mathlib.Core.Path.{◌≡◌, refl, ap}
-use mathlib.Core.List.{List, [], ◌∷◌}
+use mathlib.Core.List.{List}
 use mathlib.Core.Bool.{Bool, true, false, cond, ◌||◌}
 use mathlib.Core.Option.{Option, none, some}
 use lib.ListN.{set}
 use lib.Dec.{ltb}
 use borrow.Author.Tests.{eq-eqb, ne_eqb}
-use types.Run.{OneOf, miss}
-use denote.Enum.Declared.{tag_of}
 use Rattle.network.specs.declared.network_info.NetworkInfo.{NetworkInfo}
 use Rattle.steps.specs.declared.reader.Content.{Content}
 use Rattle.steps.specs.declared.reader.Content.TheVariants.{Broadcast, Agreement}
 use Rattle.network.specs.Network.{is_validator, num_correct}
 use Rattle.steps.specs.Answers.{Tape}
 use Rattle.steps.specs.Steps.{Out, put_all}
-use Rattle.steps.specs.Runs.{going, refused, failed, Run, ends, onward, inside, Left, leaves}
+use Rattle.steps.specs.Runs.{going, Run, ends, onward, inside, Left, leaves}
 use Rattle.steps.proofs.RunLaws.{onward_go, onward_refused, onward_failed}
 use Rattle.steps.proofs.RunsInParts.{placed, leaves_inside}
 use Rattle.proposal.specs.declared.ProposalState.{ProposalState}
@@ -31,8 +29,6 @@ use Rattle.proposal.specs.Proposal.{asks_agreement, asks_broadcast, handle_agree
 use Rattle.subset.specs.Subset.{count_accepted, all_complete, contributed, at_proposal, broadcast_at, agreement_at, vote_from, votes, try_output, propose, handle_message}
 use Rattle.proposal.specs.Outcomes.{verdict, left}
 use Rattle.subset.specs.Outcomes.{output_of, stored_as, passed, passing_verdict, left_passed, then_output, message_at}
-use Rattle.proposal.specs.contracts.proposal_state.Outcome.{the_type as outcome_type}
-use Rattle.subset.specs.contracts.subset.Passing.{the_type as passing_type}
 
 -- the ways of an `if let Outcome::Value(value) =` and of a `let Passing::Done = x else` that are not taken
 pub no_output : (x : Outcome) → ((v : ℕ) → x ≡ Value v → ⊥) → output_of x ≡ none

@@ -2,11 +2,9 @@
 use Prim.Native.Nat.{ℕ, suc, ◌+◌}
 use native.Mathlib.Omega.{arith}
 use mathlib.Core.Path.{◌≡◌, refl, sym, ap, ◌∙◌}
-use mathlib.Core.List.{List, [], ◌∷◌}
+use mathlib.Core.List.{List}
 use mathlib.Core.Bool.{Bool, true, false}
 use borrow.Author.Tests.{eq-eqb, ne_eqb}
-use types.Run.{OneOf, miss}
-use denote.Enum.Declared.{tag_of}
 use Rattle.steps.specs.Answers.{Tape}
 use Rattle.steps.specs.Steps.{Out, put_all}
 use Rattle.steps.specs.Runs.{Verdict, going, refused, failed, Run, Left, ends, onward, leaves}
@@ -17,7 +15,6 @@ use Rattle.work.specs.declared.honey_badger.Trial.{Trial}
 use Rattle.work.specs.declared.honey_badger.Trial.TheVariants.{NotReady, Done, Refused}
 use Rattle.work.specs.Work.{batches_from, beside}
 use Rattle.work.specs.Shape.{try_output_batch, tried_verdict, batches_verdict}
-use Rattle.work.specs.contracts.honey_badger.Trial.{the_type as trial_type}
 use Rattle.work.proofs.RunLeaves.{turn_over, turn_goes, turn_stops}
 
 -- THE WORDS OF AN EPOCH: the call's own stand apart, those of the others in the state

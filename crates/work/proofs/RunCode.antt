@@ -1,11 +1,9 @@
 -- A run, from what its parts left: building the epoch, its call, the batches. For the proofs of the code. Assumes nothing.
 use Prim.Native.Nat.{ℕ, ◌+◌}
 use mathlib.Core.Path.{◌≡◌, refl, sym, ap, ◌∙◌}
-use mathlib.Core.List.{List, [], ◌∷◌}
+use mathlib.Core.List.{List}
 use mathlib.Core.Bool.{true}
 use borrow.Author.Tests.{eq-eqb, ne_eqb}
-use types.Run.{OneOf, miss}
-use denote.Enum.Declared.{tag_of}
 use Rattle.steps.specs.declared.reader.Answer.{Answer}
 use Rattle.steps.specs.declared.reader.Answer.TheVariants.{Got, Refused as NoAnswer}
 use Rattle.network.specs.declared.network_info.NetworkInfo.{NetworkInfo}
@@ -31,7 +29,6 @@ use Rattle.epoch.specs.declared.MessageContent.TheVariants.{Subset, DecryptionSh
 use Rattle.work.specs.declared.honey_badger.Call.{Call}
 use Rattle.work.specs.declared.honey_badger.Call.TheVariants.{Propose, Message}
 use Rattle.work.specs.Shape.{CallOk, body_of, input_of, batches_verdict, left_built}
-use Rattle.work.specs.contracts.honey_badger.Trial.{the_type as trial_type}
 use Rattle.work.proofs.RunLeaves.{work_goes}
 use Rattle.work.proofs.RunBesideState.{built_keeps}
 

@@ -15,7 +15,7 @@ use Rattle.epoch.specs.Epoch.{new_epoch, propose as propose_in_epoch, handle_mes
 use Rattle.epoch.proofs.ListEmptied.{new_epoch_none, propose_keeps, content_keeps}
 use Rattle.epoch.proofs.Ranges.{ContentOk, new_epoch_ok, propose_safe, content_safe}
 use Rattle.state.specs.State.{nodes, net_of, strategy_of, encrypted_in, epoch_words, state_ok}
-use Rattle.work.specs.Work.{epoch_call, beside}
+use Rattle.work.specs.Work.{epoch_call}
 use Rattle.work.proofs.Walk.{call_keeps}
 use Rattle.state.proofs.RangesState.{header_ok, words_in_range, lists_in_range}
 

@@ -1,3 +1,4 @@
+-- `context_after` meets its contract: each return rewrites the definition's tests with those that led there. Assumes nothing.
 use native.Mathlib.Omega.{arith}
 use borrow.Author.Tests.{ne_eqb, le-leb, lt-leb}
 use Rattle.steps.specs.Table.{context_after}

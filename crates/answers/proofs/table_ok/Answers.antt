@@ -1,12 +1,12 @@
-use mathlib.Core.Path.{◌≡◌, refl, sym, ◌∙◌}
-use mathlib.Core.Bool.{true}
-use Prim.Native.Nat.{ℕ, ◌+◌, ◌-◌, ◌/◌, ◌≤◌, ◌<◌}
+-- `table_ok` meets its contract. The invariant: some fuel that is enough is left, and what the definition says of the rest of the
+-- chain is what it says of the whole. The measure is what is left of the words past the index. Assumes nothing.
+use mathlib.Core.Path.{refl, sym, ◌∙◌}
+use Prim.Native.Nat.{◌-◌}
 use native.Mathlib.Omega.{arith}
-use lib.ListN.{length, get_or}
+use lib.ListN.{length}
 use borrow.Author.Tests.{not-true, not-false}
-use Rattle.steps.specs.Table.{may_follow, chain_ok, shape_ok, table_ok}
+use Rattle.steps.specs.Table.{table_ok}
 use Rattle.steps.proofs.TableCheck.{shape_length, follow_facts, chain_end, chain_step}
-use borrow.Author.Rules.{rules}
 use Rattle.answers.proofs.table_ok.Goals as goal
 
 pub returns-then-not-shape_ok : goal.returns-then-not-shape_ok

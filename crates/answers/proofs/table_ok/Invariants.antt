@@ -1,12 +1,7 @@
-use mathlib.Core.Path.{◌≡◌, refl, sym, ◌∙◌}
-use mathlib.Core.Bool.{true}
-use Prim.Native.Nat.{ℕ, ◌+◌, ◌-◌, ◌/◌, ◌≤◌, ◌<◌}
-use native.Mathlib.Omega.{arith}
+use mathlib.Core.Path.{◌≡◌}
+use Prim.Native.Nat.{ℕ, ◌+◌, ◌-◌, ◌≤◌, ◌<◌}
 use lib.ListN.{length, get_or}
-use borrow.Author.Tests.{not-true, not-false}
-use Rattle.steps.specs.Table.{may_follow, chain_ok, shape_ok, table_ok}
-use Rattle.steps.proofs.TableCheck.{shape_length, follow_facts, chain_end, chain_step}
-use borrow.Author.Rules.{rules}
+use Rattle.steps.specs.Table.{chain_ok}
 use Rattle.answers.proofs.table_ok.Given as goal
 
 abbrev pub invariant-loop-next : goal.invariant-loop-next

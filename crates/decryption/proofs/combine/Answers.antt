@@ -1,3 +1,4 @@
+-- `combine` meets its contract, by the answer. Assumes nothing.
 use mathlib.Core.Path.{sym, ap}
 use Rattle.steps.specs.Steps.{put_all}
 use Rattle.steps.specs.Runs.{leaves}

@@ -1,3 +1,4 @@
+-- `combine_if` meets its contract. Assumes nothing.
 use borrow.Author.Tests.{not-true, not-false}
 use Rattle.steps.specs.Steps.{put_all}
 use Rattle.decryption.proofs.combine_if.Goals as goal

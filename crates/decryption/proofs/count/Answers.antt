@@ -1,3 +1,4 @@
+-- `count` meets its contract. The invariant: what is counted so far and what the rest has make up the whole. Assumes nothing.
 use native.Mathlib.Omega.{arith}
 use Rattle.decryption.proofs.ShareCode.{count_some, count_none, count_done}
 use Rattle.decryption.proofs.count.Goals as goal

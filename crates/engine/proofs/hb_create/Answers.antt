@@ -1,6 +1,6 @@
+-- `hb_create` meets its contract. Assumes nothing.
 use mathlib.Core.Path.{sym, ◌∙◌}
 use native.Mathlib.Omega.{arith}
-use borrow.Author.Rules.{rules}
 use borrow.Author.Tests.{not-true, not-false}
 use Rattle.engine.specs.Create.{numbers}
 use Rattle.engine.proofs.CreateCode.{numbers_on_sheet, create_off, create_short, create_done}

@@ -1,6 +1,6 @@
+-- `hb_fault_count` meets its contract. Assumes nothing.
 use mathlib.Core.Path.{sym, ◌∙◌}
 use native.Mathlib.Omega.{arith}
-use borrow.Author.Rules.{rules}
 use borrow.Author.Tests.{not-true, not-false}
 use Rattle.state.proofs.WordsCode.{header_inside}
 use Rattle.state.proofs.RangeCode.{ok_words}

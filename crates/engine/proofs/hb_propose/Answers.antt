@@ -1,6 +1,6 @@
+-- `hb_propose` meets its contract: turned down by its checks, or run, with scratch cleared from 5 on. Assumes nothing.
 use mathlib.Core.Path.{sym, ap, ◌∙◌}
 use native.Mathlib.Omega.{arith}
-use borrow.Author.Rules.{rules}
 use lib.ListN.{length}
 use lib.Seq.{length-take-le}
 use Rattle.state.proofs.RangeCode.{ok_words}

@@ -1,5 +1,5 @@
+-- `hb_received_proposals` meets its contract. Assumes nothing.
 use mathlib.Core.Path.{sym, ◌∙◌}
-use borrow.Author.Rules.{rules}
 use borrow.Author.Tests.{not-true, not-false}
 use Rattle.calls.specs.Calls.{query_reply, received_proposals_result}
 use Rattle.engine.proofs.hb_received_proposals.Goals as goal

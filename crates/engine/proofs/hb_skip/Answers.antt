@@ -1,5 +1,5 @@
+-- `hb_skip` meets its contract. Assumes nothing.
 use mathlib.Core.Path.{sym, ◌∙◌}
-use borrow.Author.Rules.{rules}
 use borrow.Author.Tests.{not-true, not-false, lt-ltb, le-ltb}
 use Rattle.state.proofs.RangeCode.{ok_words}
 use Rattle.calls.specs.Calls.{skip_reply, skip_state}

@@ -1,6 +1,6 @@
+-- `close` meets its contract: 10, or the commit and the header of an empty step. Assumes nothing.
 use mathlib.Core.Path.{refl, ◌∙◌}
 use native.Mathlib.Omega.{arith}
-use borrow.Author.Rules.{rules}
 use Rattle.work.specs.Work.{worked}
 use Rattle.work.specs.Shape.{call_base}
 use Rattle.calls.proofs.CallCode.{after_same, failed_full, failed_done}

@@ -1,4 +1,4 @@
-use borrow.Author.Rules.{rules}
+-- `is_end` meets its contract. Assumes nothing.
 use Rattle.calls.proofs.CallCode.{end_zero, end_at}
 use Rattle.calls.proofs.call.is_end.Goals as goal
 

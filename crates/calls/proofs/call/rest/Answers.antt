@@ -1,7 +1,7 @@
+-- `rest` meets its contract: 9, 10 and the empty step. Assumes nothing.
 use mathlib.Core.Path.{refl, sym, ap, ◌∙◌}
 use mathlib.Core.List.{[]}
 use native.Mathlib.Omega.{arith}
-use borrow.Author.Rules.{rules}
 use borrow.Author.Tests.{not-true, not-false}
 use Rattle.steps.specs.Answers.{tape_of}
 use Rattle.steps.specs.Steps.{writing}

@@ -1,6 +1,6 @@
+-- `run_twice` meets its contract, from what the first run left. Assumes nothing.
 use mathlib.Core.Path.{sym, ◌∙◌}
 use mathlib.Core.List.{◌++◌}
-use borrow.Author.Rules.{rules}
 use borrow.Author.Tests.{not-true, not-false}
 use Rattle.steps.specs.Answers.{tape_of}
 use Rattle.state.proofs.RangeCode.{ok_words}

@@ -1,6 +1,6 @@
+-- `settle` meets its contract: a first part of scratch is written, which is zeroed. Assumes nothing.
 use mathlib.Core.Path.{refl, sym, ◌∙◌}
 use native.Mathlib.Omega.{arith}
-use borrow.Author.Rules.{rules}
 use lib.Seq.{length-take-le}
 use Rattle.state.proofs.WordsCode.{header_inside}
 use Rattle.state.proofs.RangeCode.{ok_words}

@@ -1,7 +1,7 @@
+-- `too_early` meets its contract: 9, 10 and the step of one fault, counted. Assumes nothing.
 use mathlib.Core.Path.{refl, sym, ◌∙◌}
 use mathlib.Core.List.{[], ◌∷◌, ◌++◌}
 use native.Mathlib.Omega.{arith}
-use borrow.Author.Rules.{rules}
 use borrow.Author.Tests.{not-true, not-false}
 use Rattle.steps.specs.Answers.{tape_of}
 use Rattle.steps.specs.Steps.{fault}

@@ -1,3 +1,4 @@
+-- `content_of` meets its contract. Assumes nothing.
 use borrow.Author.Tests.{eq-eqb, ne_eqb}
 use Rattle.calls.specs.Calls.{content_of}
 use Rattle.calls.proofs.checks.content_of.Goals as goal

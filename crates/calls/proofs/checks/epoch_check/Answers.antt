@@ -1,4 +1,4 @@
-use borrow.Author.Rules.{rules}
+-- `epoch_check` meets its contract. Assumes nothing.
 use Rattle.calls.proofs.ChecksApart.{epoch_high, epoch_low}
 use Rattle.calls.proofs.checks.epoch_check.Goals as goal
 

@@ -1,4 +1,4 @@
-use borrow.Author.Rules.{rules}
+-- `item_ok` meets its contract. Assumes nothing.
 use borrow.Author.Tests.{eq-eqb, ne_eqb}
 use Rattle.calls.specs.Calls.{item_ok}
 use Rattle.calls.proofs.checks.item_ok.Goals as goal

@@ -1,5 +1,5 @@
+-- `propose_checks` meets its contract. Assumes nothing.
 use mathlib.Core.Path.{sym, ◌∙◌}
-use borrow.Author.Rules.{rules}
 use Rattle.state.proofs.WordsCode.{header_inside}
 use Rattle.state.proofs.RangeCode.{ok_words}
 use Rattle.calls.proofs.ChecksApart.{then_passed, then_turned, first_ok}

@@ -1,6 +1,6 @@
+-- `handle_message` meets its contract, by the epoch that the message is for. Assumes nothing.
 use mathlib.Core.Path.{◌∙◌}
 use native.Mathlib.Omega.{arith}
-use borrow.Author.Rules.{rules}
 use Rattle.steps.specs.Answers.{tape_of}
 use Rattle.state.proofs.WordsCode.{header_inside}
 use Rattle.state.proofs.RangeCode.{ok_words}

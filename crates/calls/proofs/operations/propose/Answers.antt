@@ -1,6 +1,6 @@
+-- `propose` meets its contract: an observer's call, and a validator's. Assumes nothing.
 use mathlib.Core.Path.{sym, ap, ◌∙◌}
 use native.Mathlib.Omega.{arith}
-use borrow.Author.Rules.{rules}
 use borrow.Author.Tests.{not-true, not-false}
 use Rattle.network.specs.Network.{is_validator}
 use Rattle.steps.specs.Answers.{tape_of}

@@ -1,3 +1,4 @@
+-- `handle_message_at` meets its contract, case by case. Assumes nothing.
 use mathlib.Core.Path.{sym, ap, ◌∙◌}
 use Rattle.steps.specs.Runs.{leaves}
 use Rattle.decryption.proofs.ShareCode.{hands}

@@ -1,3 +1,4 @@
+-- `is_share_valid` meets its contract: no ciphertext yet, or by the answer. Assumes nothing.
 use mathlib.Core.Path.{sym, ◌∙◌}
 use borrow.Author.Tests.{eq-eqb, ne_eqb}
 use Rattle.decryption.proofs.ShareCode.{valid_early, valid_told, valid_refused}

@@ -1,3 +1,5 @@
+-- `remove_invalid_shares` meets its contract. The invariant: what checking from here on leaves is what checking from the start leaves; a turn
+-- keeps it, by what is found of the share. Assumes nothing.
 use mathlib.Core.Path.{refl, sym, ap, ◌∙◌}
 use borrow.Author.Rules.{rules}
 use Rattle.steps.specs.Answers.{tape_at}

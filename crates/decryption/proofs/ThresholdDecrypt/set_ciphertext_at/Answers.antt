@@ -1,3 +1,4 @@
+-- `set_ciphertext_at` meets its contract, case by case. Assumes nothing.
 use mathlib.Core.Path.{sym}
 use Rattle.decryption.proofs.ShareCode.{set_twice, set_refused, set_invalid, set_verified}
 use Rattle.decryption.proofs.ThresholdDecrypt.set_ciphertext_at.Goals as goal

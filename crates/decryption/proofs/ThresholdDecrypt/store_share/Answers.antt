@@ -1,3 +1,4 @@
+-- `store_share` meets its contract: the share is the first of its sender, or another. Assumes nothing.
 use mathlib.Core.Path.{sym, ap, ◌∙◌}
 use Rattle.steps.specs.Runs.{leaves}
 use Rattle.decryption.proofs.ShareCode.{hands}

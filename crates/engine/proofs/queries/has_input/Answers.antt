@@ -1,4 +1,4 @@
-use borrow.Author.Rules.{rules}
+-- `has_input` meets its contract. Assumes nothing.
 use Rattle.work.specs.HoneyBadger.{has_input}
 use Rattle.engine.proofs.queries.has_input.Goals as goal
 

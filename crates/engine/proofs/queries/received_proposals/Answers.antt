@@ -1,6 +1,6 @@
+-- `received_proposals` meets its contract: those of the current epoch's words. Assumes nothing.
 use mathlib.Core.Path.{◌∙◌}
 use native.Mathlib.Omega.{arith}
-use borrow.Author.Rules.{rules}
 use Rattle.state.specs.State.{current_epoch}
 use Rattle.state.proofs.WordsCode.{header_inside, place_inside, state_small, part_words, words_epoch}
 use Rattle.state.proofs.RangeCode.{ok_words}

@@ -1,5 +1,4 @@
-use mathlib.Core.Path.{ap}
-use borrow.Author.Rules.{rules}
+-- `accept` meets its contract. Assumes nothing.
 use Rattle.epochwords.specs.Words.{accept}
 use Rattle.epoch.proofs.epoch_state.accept.Goals as goal
 

@@ -1,6 +1,5 @@
+-- `call_subset` meets its contract: the proposal is not serialised, the subset has completed, or it is called. Assumes nothing.
 use mathlib.Core.Path.{sym, ap, ◌∙◌}
-use native.Mathlib.Omega.{arith}
-use borrow.Author.Rules.{rules}
 use borrow.Author.Tests.{eq-eqb, ne_eqb}
 use Rattle.steps.specs.Steps.{put_all}
 use Rattle.steps.specs.Runs.{leaves}

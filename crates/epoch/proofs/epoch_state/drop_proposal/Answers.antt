@@ -1,5 +1,5 @@
+-- `drop_proposal` meets its contract. Assumes nothing.
 use native.Mathlib.Omega.{arith}
-use borrow.Author.Rules.{rules}
 use lib.ListN.{length-set}
 use Rattle.epochwords.proofs.EntryCode.{within_record, epoch_small}
 use Rattle.epoch.proofs.FinishCode.{dropped}

@@ -1,12 +1,6 @@
-use Prim.Native.Nat.{◌+◌, ◌-◌, ◌≤◌}
-use mathlib.Core.Path.{◌≡◌, refl, sym, ◌∙◌}
+-- `finish` meets its contract. The invariant: finishing from here on leaves what finishing from the start leaves. Assumes nothing.
+use mathlib.Core.Path.{refl, ◌∙◌}
 use native.Mathlib.Omega.{arith}
-use borrow.Author.Rules.{rules}
-use lib.ListN.{length}
-use Rattle.steps.specs.Answers.{Tape}
-use Rattle.steps.specs.Steps.{out, put_all}
-use Rattle.steps.specs.Runs.{leaves}
-use Rattle.epoch.specs.Epoch.{finish_from}
 use Rattle.epochwords.proofs.EntryCode.{all_left}
 use Rattle.epoch.proofs.FinishCode.{finish_turn, finish_done}
 use Rattle.epoch.proofs.epoch_state.finish.Goals as goal

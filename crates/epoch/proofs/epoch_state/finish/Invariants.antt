@@ -1,14 +1,10 @@
-use Prim.Native.Nat.{◌+◌, ◌-◌, ◌≤◌}
-use mathlib.Core.Path.{◌≡◌, refl, sym, ◌∙◌}
-use native.Mathlib.Omega.{arith}
-use borrow.Author.Rules.{rules}
+use Prim.Native.Nat.{◌-◌, ◌≤◌}
+use mathlib.Core.Path.{◌≡◌}
 use lib.ListN.{length}
 use Rattle.steps.specs.Answers.{Tape}
-use Rattle.steps.specs.Steps.{out, put_all}
+use Rattle.steps.specs.Steps.{out}
 use Rattle.steps.specs.Runs.{leaves}
 use Rattle.epoch.specs.Epoch.{finish_from}
-use Rattle.epochwords.proofs.EntryCode.{all_left}
-use Rattle.epoch.proofs.FinishCode.{finish_turn, finish_done}
 use Rattle.epoch.proofs.epoch_state.finish.Given as goal
 
 abbrev pub invariant-loop-p : goal.invariant-loop-p

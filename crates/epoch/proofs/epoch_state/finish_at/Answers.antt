@@ -1,7 +1,5 @@
-use mathlib.Core.Path.{◌≡◌, sym, ap, ◌∙◌}
-use mathlib.Core.Bool.{true, false}
-use native.Mathlib.Omega.{arith}
-use borrow.Author.Rules.{rules}
+-- `finish_at` meets its contract, by whether the proposer was accepted. Assumes nothing.
+use mathlib.Core.Path.{sym, ◌∙◌}
 use Rattle.epochwords.specs.Words.{is_accepted}
 use Rattle.epoch.proofs.FinishCode.{finish_accepted, finish_other}
 use Rattle.epoch.proofs.epoch_state.finish_at.Goals as goal

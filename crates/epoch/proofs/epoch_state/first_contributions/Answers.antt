@@ -1,9 +1,9 @@
-use Prim.Native.Nat.{ℕ, ◌+◌, ◌-◌, ◌<◌, ◌≤◌}
-use mathlib.Core.Path.{◌≡◌, refl, sym, ap, ◌∙◌}
+-- `first_contributions` meets its contract. The invariant: cutting from here on leaves what cutting from the start leaves; the list stays in range.
+-- Assumes nothing.
+use mathlib.Core.Path.{refl, sym, ap, ◌∙◌}
 use native.Mathlib.Omega.{arith}
-use borrow.Author.Rules.{rules}
-use lib.ListN.{length, set, length-set}
-use Rattle.subset.specs.Words.{count_of, contributor, drop_from}
+use lib.ListN.{set, length-set}
+use Rattle.subset.specs.Words.{count_of, contributor}
 use Rattle.epoch.specs.Epoch.{first_contributions}
 use Rattle.epochwords.proofs.EntryCode.{within_record, epoch_small}
 use Rattle.epoch.proofs.ContributionCode.{cut_who, cut_turn, cut_done}

@@ -1,12 +1,7 @@
-use Prim.Native.Nat.{ℕ, ◌+◌, ◌-◌, ◌<◌, ◌≤◌}
-use mathlib.Core.Path.{◌≡◌, refl, sym, ap, ◌∙◌}
-use native.Mathlib.Omega.{arith}
-use borrow.Author.Rules.{rules}
-use lib.ListN.{length, set, length-set}
-use Rattle.subset.specs.Words.{count_of, contributor, drop_from}
-use Rattle.epoch.specs.Epoch.{first_contributions}
-use Rattle.epochwords.proofs.EntryCode.{within_record, epoch_small}
-use Rattle.epoch.proofs.ContributionCode.{cut_who, cut_turn, cut_done}
+use Prim.Native.Nat.{ℕ, ◌-◌, ◌<◌}
+use mathlib.Core.Path.{◌≡◌}
+use lib.ListN.{length}
+use Rattle.subset.specs.Words.{contributor, drop_from}
 use Rattle.epoch.proofs.epoch_state.first_contributions.Given as goal
 
 abbrev pub invariant-loop-i : goal.invariant-loop-i

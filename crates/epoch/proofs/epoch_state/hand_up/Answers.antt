@@ -1,5 +1,5 @@
+-- `hand_up` meets its contract, by what the call of the subset came to. Assumes nothing.
 use mathlib.Core.Path.{sym, ap, ◌∙◌}
-use borrow.Author.Rules.{rules}
 use Rattle.steps.specs.Runs.{leaves}
 use Rattle.epoch.proofs.CallCode.{up_goes, up_refused, up_failed}
 use Rattle.epoch.proofs.epoch_state.hand_up.Goals as goal

@@ -1,4 +1,4 @@
-use borrow.Author.Rules.{rules}
+-- `handle_at` meets its contract, by what comes. Assumes nothing.
 use Rattle.epoch.proofs.epoch_state.handle_at.Goals as goal
 
 pub call_subset-requires : goal.call_subset-requires

@@ -1,6 +1,5 @@
-use mathlib.Core.Path.{sym, ap, ◌∙◌}
-use native.Mathlib.Omega.{arith}
-use borrow.Author.Rules.{rules}
+-- `handle_contribution` meets its contract: the epoch is plain, or the share was sent or not. Assumes nothing.
+use mathlib.Core.Path.{ap, ◌∙◌}
 use borrow.Author.Tests.{not-true, not-false}
 use Rattle.epoch.specs.Outcomes.{outcome_verdict}
 use Rattle.epoch.proofs.ContributionCode.{not_done, plain_done, sent_stops, sent_goes}

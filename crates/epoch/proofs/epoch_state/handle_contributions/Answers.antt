@@ -1,5 +1,5 @@
-use mathlib.Core.Path.{sym, ap, ◌∙◌}
-use borrow.Author.Rules.{rules}
+-- `handle_contributions` meets its contract. Assumes nothing.
+use mathlib.Core.Path.{◌∙◌}
 use Rattle.steps.proofs.RunsInParts.{leaves_inside}
 use Rattle.epochwords.specs.declared.SubsetHandlingStrategy.TheVariants.{Incremental}
 use Rattle.epoch.specs.Epoch.{first_contributions, handle_contributions}

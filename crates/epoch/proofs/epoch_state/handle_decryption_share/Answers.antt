@@ -1,6 +1,5 @@
+-- `handle_decryption_share` meets its contract, by whether the share is expected. Assumes nothing.
 use mathlib.Core.Path.{sym, ap, ◌∙◌}
-use native.Mathlib.Omega.{arith}
-use borrow.Author.Rules.{rules}
 use Rattle.steps.specs.Steps.{put_all}
 use Rattle.steps.specs.Runs.{leaves}
 use Rattle.epochwords.specs.Words.{is_accepted}

@@ -1,16 +1,14 @@
-use Prim.Native.Nat.{◌+◌, ◌-◌, ◌≤◌}
-use mathlib.Core.Path.{◌≡◌, refl, sym, ap, ◌∙◌}
+-- `handle_each` meets its contract. The invariant: what handling from here on leaves is what handling from the start leaves; the list stays.
+-- Assumes nothing.
+use Prim.Native.Nat.{◌+◌, ◌-◌}
+use mathlib.Core.Path.{refl, sym, ap, ◌∙◌}
 use native.Mathlib.Omega.{arith}
-use borrow.Author.Rules.{rules}
-use lib.ListN.{length}
 use Rattle.steps.specs.Answers.{tape_at}
-use Rattle.steps.specs.Steps.{out, put_all}
+use Rattle.steps.specs.Steps.{put_all}
 use Rattle.steps.specs.Runs.{leaves}
 use Rattle.steps.proofs.RunLaws.{onward_go, onward_stop}
-use Rattle.epochwords.specs.declared.SubsetHandlingStrategy.{SubsetHandlingStrategy}
 use Rattle.subset.specs.Words.{count_of, contributor}
 use Rattle.epochwords.specs.declared.SubsetHandlingStrategy.TheVariants.{Incremental}
-use Rattle.epochwords.specs.Shape.{Listed}
 use Rattle.epoch.specs.Outcomes.{outcome_verdict}
 use Rattle.epoch.specs.Epoch.{handle_from}
 use Rattle.epochwords.proofs.EntryCode.{all_left, within_record, epoch_small}

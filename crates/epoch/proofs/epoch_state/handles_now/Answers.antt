@@ -1,5 +1,4 @@
-use mathlib.Core.Path.{sym}
-use borrow.Author.Rules.{rules}
+-- `handles_now` meets its contract. Assumes nothing.
 use Rattle.epoch.specs.Epoch.{handles_now}
 use Rattle.epoch.proofs.epoch_state.handles_now.Goals as goal
 

@@ -1,5 +1,5 @@
+-- `input_ciphertext` meets its contract, case by case. Assumes nothing.
 use mathlib.Core.Path.{sym, ap, ◌∙◌}
-use borrow.Author.Rules.{rules}
 use Rattle.steps.specs.Steps.{put_all}
 use Rattle.steps.specs.Runs.{leaves}
 use Rattle.epoch.proofs.EntryCode.{input_set, input_invalid, input_twice, input_refused}

@@ -1,4 +1,4 @@
-use borrow.Author.Rules.{rules}
+-- `input_subset` meets its contract, by what comes. Assumes nothing.
 use Rattle.epoch.proofs.epoch_state.input_subset.Goals as goal
 
 pub handle_message_from-requires : goal.handle_message_from-requires

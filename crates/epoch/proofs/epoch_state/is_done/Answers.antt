@@ -1,4 +1,4 @@
-use borrow.Author.Rules.{rules}
+-- `is_done` meets its contract, by what the call of the subset came to. Assumes nothing.
 use Rattle.epoch.proofs.CallCode.{not_ended}
 use Rattle.epoch.proofs.epoch_state.is_done.Goals as goal
 

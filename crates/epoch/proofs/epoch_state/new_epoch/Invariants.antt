@@ -1,10 +1,7 @@
-use Prim.Native.Nat.{◌+◌, ◌-◌, ◌≤◌}
-use mathlib.Core.Path.{◌≡◌, refl, sym, ap, ◌∙◌}
+use Prim.Native.Nat.{◌-◌, ◌≤◌}
+use mathlib.Core.Path.{◌≡◌}
 use mathlib.Core.List.{◌++◌}
-use native.Mathlib.Omega.{arith}
-use borrow.Author.Rules.{rules}
-use lib.ListN.{length, drop, replicate, length-set}
-use Rattle.epoch.proofs.ContributionCode.{zero_turn, zero_done}
+use lib.ListN.{length, drop, replicate}
 use Rattle.epoch.proofs.epoch_state.new_epoch.Given as goal
 
 abbrev pub invariant-loop-i : goal.invariant-loop-i

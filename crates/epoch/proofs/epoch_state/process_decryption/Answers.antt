@@ -1,5 +1,5 @@
-use mathlib.Core.Path.{sym, ap, ◌∙◌}
-use borrow.Author.Rules.{rules}
+-- `process_decryption` meets its contract, by what the call came to. Assumes nothing.
+use mathlib.Core.Path.{◌∙◌}
 use Rattle.epoch.proofs.EntryCode.{process_nothing, process_complete, process_refused, process_failed}
 use Rattle.epoch.proofs.epoch_state.process_decryption.Goals as goal
 

@@ -1,5 +1,5 @@
+-- `send_decryption_share` meets its contract, by the answer. Assumes nothing.
 use mathlib.Core.Path.{sym, ap, ◌∙◌}
-use borrow.Author.Rules.{rules}
 use Rattle.steps.specs.Steps.{put_all}
 use Rattle.steps.specs.Runs.{leaves}
 use Rattle.epoch.proofs.EntryCode.{send_refused, send_bad, send_good}

@@ -1,5 +1,5 @@
+-- `serialise` meets its contract, by what comes and by the answer. Assumes nothing.
 use mathlib.Core.Path.{ap}
-use borrow.Author.Rules.{rules}
 use Rattle.steps.specs.Steps.{put_all}
 use Rattle.steps.specs.Runs.{leaves}
 use Rattle.epoch.proofs.CallCode.{serialised_refused, serialised_failed, serialised_goes}

@@ -1,5 +1,5 @@
+-- `subset_complete` meets its contract. Assumes nothing.
 use mathlib.Core.Path.{refl}
-use borrow.Author.Rules.{rules}
 use Rattle.epoch.specs.Epoch.{subset_complete}
 use Rattle.epoch.proofs.epoch_state.subset_complete.Goals as goal
 

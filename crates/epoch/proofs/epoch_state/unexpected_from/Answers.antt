@@ -1,10 +1,6 @@
-use Prim.Native.Nat.{◌+◌, ◌-◌, ◌≤◌}
-use mathlib.Core.Path.{◌≡◌, refl, sym, ◌∙◌}
+-- `unexpected_from` meets its contract. The invariant: the faults from here on leave what all faults leave. Assumes nothing.
+use mathlib.Core.Path.{refl, ◌∙◌}
 use native.Mathlib.Omega.{arith}
-use borrow.Author.Rules.{rules}
-use lib.ListN.{length}
-use Rattle.steps.specs.Steps.{out, put_all}
-use Rattle.epoch.specs.Epoch.{unexpected_from}
 use Rattle.epochwords.proofs.EntryCode.{all_left}
 use Rattle.epoch.proofs.FinishCode.{unexpected_turn, unexpected_done}
 use Rattle.epoch.proofs.epoch_state.unexpected_from.Goals as goal

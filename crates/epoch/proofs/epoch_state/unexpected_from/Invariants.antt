@@ -1,12 +1,8 @@
-use Prim.Native.Nat.{◌+◌, ◌-◌, ◌≤◌}
-use mathlib.Core.Path.{◌≡◌, refl, sym, ◌∙◌}
-use native.Mathlib.Omega.{arith}
-use borrow.Author.Rules.{rules}
+use Prim.Native.Nat.{◌-◌, ◌≤◌}
+use mathlib.Core.Path.{◌≡◌}
 use lib.ListN.{length}
 use Rattle.steps.specs.Steps.{out, put_all}
 use Rattle.epoch.specs.Epoch.{unexpected_from}
-use Rattle.epochwords.proofs.EntryCode.{all_left}
-use Rattle.epoch.proofs.FinishCode.{unexpected_turn, unexpected_done}
 use Rattle.epoch.proofs.epoch_state.unexpected_from.Given as goal
 
 abbrev pub invariant-loop-i : goal.invariant-loop-i

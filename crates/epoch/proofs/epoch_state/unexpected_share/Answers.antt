@@ -1,5 +1,5 @@
+-- `unexpected_share` meets its contract. Assumes nothing.
 use mathlib.Core.Path.{sym, ◌∙◌}
-use borrow.Author.Rules.{rules}
 use borrow.Author.Tests.{not-true, not-false}
 use Rattle.epoch.proofs.FinishCode.{unexpected_some, unexpected_none}
 use Rattle.epoch.proofs.epoch_state.unexpected_share.Goals as goal

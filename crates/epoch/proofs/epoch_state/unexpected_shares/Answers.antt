@@ -1,5 +1,5 @@
+-- `unexpected_shares` meets its contract, by the tag. Assumes nothing.
 use mathlib.Core.Path.{sym, ap, ◌∙◌}
-use borrow.Author.Rules.{rules}
 use Rattle.steps.specs.Steps.{put_all}
 use Rattle.epoch.proofs.FinishCode.{shares_ongoing, shares_other}
 use Rattle.epoch.proofs.epoch_state.unexpected_shares.Goals as goal

@@ -1,10 +1,10 @@
+-- `received_proposals` meets its contract, by the status. Assumes nothing.
 use native.Mathlib.Omega.{arith}
 use borrow.Author.Tests.{eq-eqb, ne_eqb}
 use lib.Count.{ones-le}
 use Rattle.subset.specs.Words.{accepted_of}
 use Rattle.subset.proofs.Bits.{ones_bits}
 use Rattle.epoch.specs.Epoch.{received_proposals}
-use borrow.Author.Rules.{rules}
 use Rattle.epoch.proofs.received.received_proposals.Goals as goal
 
 pub returns-then-status-eq-STATUS_VACANT : goal.returns-then-status-eq-STATUS_VACANT

@@ -1,4 +1,4 @@
-use borrow.Author.Rules.{rules}
+-- `is_awaited` meets its contract, by those of the functions that it calls. Assumes nothing.
 use Rattle.epochwords.specs.Words.{is_accepted}
 use Rattle.epochwords.proofs.batch.is_awaited.Goals as goal
 

@@ -1,4 +1,4 @@
-use borrow.Author.Rules.{rules}
+-- `is_read` meets its contract, by those of the functions that it calls. Assumes nothing.
 use Rattle.epochwords.specs.Words.{is_accepted}
 use Rattle.epochwords.specs.Batch.{is_read}
 use Rattle.epochwords.proofs.batch.is_read.Goals as goal

@@ -1,9 +1,8 @@
-use Prim.Native.Nat.{◌-◌, ◌≤◌}
-use mathlib.Core.Path.{◌≡◌, refl, sym, ◌∙◌}
+-- `is_ready` meets its contract. The invariant: the proposers from here on decide. Assumes nothing.
+use mathlib.Core.Path.{sym, ◌∙◌}
 use native.Mathlib.Omega.{arith}
-use borrow.Author.Rules.{rules}
 use borrow.Author.Tests.{eq-eqb, ne_eqb}
-use Rattle.epochwords.specs.Batch.{is_ready_in, decrypted_from}
+use Rattle.epochwords.specs.Batch.{is_ready_in}
 use Rattle.epochwords.proofs.BatchCode.{all_left, record_here, ready_awaits, ready_turn, ready_over}
 use Rattle.epochwords.proofs.batch.is_ready.Goals as goal
 

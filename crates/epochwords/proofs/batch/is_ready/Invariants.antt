@@ -1,10 +1,6 @@
 use Prim.Native.Nat.{◌-◌, ◌≤◌}
-use mathlib.Core.Path.{◌≡◌, refl, sym, ◌∙◌}
-use native.Mathlib.Omega.{arith}
-use borrow.Author.Rules.{rules}
-use borrow.Author.Tests.{eq-eqb, ne_eqb}
-use Rattle.epochwords.specs.Batch.{is_ready_in, decrypted_from}
-use Rattle.epochwords.proofs.BatchCode.{all_left, record_here, ready_awaits, ready_turn, ready_over}
+use mathlib.Core.Path.{◌≡◌}
+use Rattle.epochwords.specs.Batch.{decrypted_from}
 use Rattle.epochwords.proofs.batch.is_ready.Given as goal
 
 abbrev pub invariant-loop-p : goal.invariant-loop-p

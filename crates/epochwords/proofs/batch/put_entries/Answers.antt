@@ -1,11 +1,8 @@
-use Prim.Native.Nat.{◌-◌, ◌≤◌}
-use mathlib.Core.Path.{◌≡◌, refl, sym, ap, ap₂, ◌∙◌}
-use mathlib.Core.Logic.{⊎_elim}
+-- `put_entries` meets its contract. The invariant: the entries from here on leave what all entries leave. Assumes nothing.
+use mathlib.Core.Path.{refl, sym, ap, ap₂, ◌∙◌}
 use native.Mathlib.Omega.{arith}
-use borrow.Author.Rules.{rules}
 use lib.ListN.{length}
-use Rattle.steps.specs.Steps.{out, put_all}
-use Rattle.epochwords.specs.Batch.{entries_from}
+use Rattle.steps.specs.Steps.{out}
 use Rattle.epochwords.proofs.BatchCode.{all_left, record_here, entries_some, entries_none, entries_over}
 use Rattle.epochwords.proofs.batch.put_entries.Goals as goal
 use Rattle.epochwords.proofs.batch.put_entries.Goals.{then-has_bit, else-has_bit}
@@ -40,10 +37,10 @@ loop-p-smaller c = omega arith
 pub loop-p-preserved : goal.loop-p-preserved
 loop-p-preserved c =
     elim c.if-has_bit.branch [
-      then-has_bit w ↦
-        (omega arith, ap length w.words-is ∙ w.output-s.auto.words ∙ c.loop-p.invariant.1, entries_some c.args.size c.args.n c.loop-p.p c.args.readable c.args.epoch.now _ c.loop-p-test.true (sym c.has_bit.ensures ∙ w.if-has_bit.true) _ (ap₂ out w.s-is w.words-is ∙ w.output-s.ensures) ∙ c.loop-p.invariant.2)
-    | else-has_bit w ↦
-        (omega arith, ap length w.words-is ∙ c.loop-p.invariant.1, rw (w.words-is, w.s-is) (entries_none c.args.size c.args.n c.loop-p.p c.args.readable c.args.epoch.now _ c.loop-p-test.true (sym c.has_bit.ensures ∙ w.if-has_bit.false)) ∙ c.loop-p.invariant.2)
+      | then-has_bit w ↦
+          (omega arith, ap length w.words-is ∙ w.output-s.auto.words ∙ c.loop-p.invariant.1, entries_some c.args.size c.args.n c.loop-p.p c.args.readable c.args.epoch.now _ c.loop-p-test.true (sym c.has_bit.ensures ∙ w.if-has_bit.true) _ (ap₂ out w.s-is w.words-is ∙ w.output-s.ensures) ∙ c.loop-p.invariant.2)
+      | else-has_bit w ↦
+          (omega arith, ap length w.words-is ∙ c.loop-p.invariant.1, rw (w.words-is, w.s-is) (entries_none c.args.size c.args.n c.loop-p.p c.args.readable c.args.epoch.now _ c.loop-p-test.true (sym c.has_bit.ensures ∙ w.if-has_bit.false)) ∙ c.loop-p.invariant.2)
     ]
 
 pub shape_of-words : goal.shape_of-words

@@ -1,12 +1,8 @@
 use Prim.Native.Nat.{◌-◌, ◌≤◌}
-use mathlib.Core.Path.{◌≡◌, refl, sym, ap, ap₂, ◌∙◌}
-use mathlib.Core.Logic.{⊎_elim}
-use native.Mathlib.Omega.{arith}
-use borrow.Author.Rules.{rules}
+use mathlib.Core.Path.{◌≡◌}
 use lib.ListN.{length}
 use Rattle.steps.specs.Steps.{out, put_all}
 use Rattle.epochwords.specs.Batch.{entries_from}
-use Rattle.epochwords.proofs.BatchCode.{all_left, record_here, entries_some, entries_none, entries_over}
 use Rattle.epochwords.proofs.batch.put_entries.Given as goal
 
 abbrev pub invariant-loop-p : goal.invariant-loop-p

@@ -1,15 +1,10 @@
-use Prim.Native.Nat.{◌+◌, ◌-◌, ◌≤◌}
-use mathlib.Core.Path.{◌≡◌, refl, sym, ap, ◌∙◌}
-use native.Mathlib.Omega.{arith}
-use borrow.Author.Rules.{rules}
+use Prim.Native.Nat.{◌-◌, ◌≤◌}
+use mathlib.Core.Path.{◌≡◌}
 use lib.ListN.{length}
 use Rattle.steps.specs.Answers.{tape_at}
-use Rattle.steps.specs.Steps.{out, put_all}
+use Rattle.steps.specs.Steps.{out}
 use Rattle.steps.specs.Runs.{leaves}
-use Rattle.steps.proofs.RunLaws.{onward_go, onward_stop}
 use Rattle.epochwords.specs.Batch.{read_from}
-use Rattle.epochwords.specs.BatchOutcomes.{read_verdict}
-use Rattle.epochwords.proofs.BatchCode.{all_left, record_here, reads_turn, reads_over, not_read}
 use Rattle.epochwords.proofs.batch.read_all.Given as goal
 
 abbrev pub invariant-loop-p : goal.invariant-loop-p

@@ -1,5 +1,5 @@
+-- `load_entry` meets its contract, by the tag. Assumes nothing.
 use mathlib.Core.Path.{sym, ◌∙◌}
-use borrow.Author.Rules.{rules}
 use borrow.Author.Tests.{eq-eqb, ne_eqb}
 use Rattle.epochwords.specs.Words.{load_entry}
 use Rattle.epochwords.proofs.entry.load_entry.Goals as goal

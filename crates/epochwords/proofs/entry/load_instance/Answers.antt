@@ -1,10 +1,8 @@
-use Prim.Native.Nat.{◌+◌, ◌-◌, ◌≤◌}
-use mathlib.Core.Path.{◌≡◌, refl, ap, ◌∙◌}
-use mathlib.Core.List.{◌++◌}
+-- `load_instance` meets its contract. The invariant: the first i shares are loaded, and the rest are 0. Assumes nothing.
+use Prim.Native.Nat.{◌+◌}
+use mathlib.Core.Path.{refl}
 use native.Mathlib.Omega.{arith}
-use borrow.Author.Rules.{rules}
-use lib.ListN.{length, replicate}
-use Rattle.epochwords.specs.Words.{shares_from, load_instance}
+use Rattle.epochwords.specs.Words.{shares_from}
 use Rattle.epochwords.proofs.EntryCode.{within_record, epoch_small, load_turn, loaded}
 use Rattle.epochwords.proofs.entry.load_instance.Goals as goal
 

@@ -1,11 +1,8 @@
-use Prim.Native.Nat.{◌+◌, ◌-◌, ◌≤◌}
-use mathlib.Core.Path.{◌≡◌, refl, ap, ◌∙◌}
+use Prim.Native.Nat.{◌-◌, ◌≤◌}
+use mathlib.Core.Path.{◌≡◌}
 use mathlib.Core.List.{◌++◌}
-use native.Mathlib.Omega.{arith}
-use borrow.Author.Rules.{rules}
-use lib.ListN.{length, replicate}
-use Rattle.epochwords.specs.Words.{shares_from, load_instance}
-use Rattle.epochwords.proofs.EntryCode.{within_record, epoch_small, load_turn, loaded}
+use lib.ListN.{replicate}
+use Rattle.epochwords.specs.Words.{shares_from}
 use Rattle.epochwords.proofs.entry.load_instance.Given as goal
 
 abbrev pub invariant-loop-i : goal.invariant-loop-i

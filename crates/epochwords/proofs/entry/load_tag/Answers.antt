@@ -1,5 +1,5 @@
+-- `load_tag` meets its contract: the word is inside. Assumes nothing.
 use native.Mathlib.Omega.{arith}
-use borrow.Author.Rules.{rules}
 use Rattle.epochwords.proofs.EntryCode.{within_record, epoch_small}
 use Rattle.epochwords.proofs.entry.load_tag.Goals as goal
 

@@ -1,6 +1,6 @@
-use mathlib.Core.Path.{◌≡◌, refl, sym, ◌∙◌}
+-- `store_entry` meets its contract, word by word. Assumes nothing.
+use mathlib.Core.Path.{◌∙◌}
 use native.Mathlib.Omega.{arith}
-use borrow.Author.Rules.{rules}
 use lib.ListN.{length-set}
 use Rattle.epochwords.specs.Words.{store_entry}
 use Rattle.epochwords.proofs.EntryCode.{within_record, epoch_small}

@@ -1,9 +1,8 @@
-use Prim.Native.Nat.{◌+◌, ◌-◌, ◌≤◌}
-use mathlib.Core.Path.{◌≡◌, refl, sym, ◌∙◌}
+-- `store_shares` meets its contract. The invariant: storing from here on leaves what storing from the start leaves. Assumes nothing.
+use Prim.Native.Nat.{◌+◌}
+use mathlib.Core.Path.{refl, sym, ◌∙◌}
 use native.Mathlib.Omega.{arith}
-use borrow.Author.Rules.{rules}
-use lib.ListN.{length, length-set}
-use Rattle.epochwords.specs.Words.{set_shares}
+use lib.ListN.{length-set}
 use Rattle.epochwords.proofs.EntryCode.{all_left, within_record, epoch_small, store_turn, store_done}
 use Rattle.epochwords.proofs.entry.store_shares.Goals as goal
 

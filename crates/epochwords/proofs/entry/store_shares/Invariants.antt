@@ -1,10 +1,7 @@
-use Prim.Native.Nat.{◌+◌, ◌-◌, ◌≤◌}
-use mathlib.Core.Path.{◌≡◌, refl, sym, ◌∙◌}
-use native.Mathlib.Omega.{arith}
-use borrow.Author.Rules.{rules}
-use lib.ListN.{length, length-set}
+use Prim.Native.Nat.{◌-◌, ◌≤◌}
+use mathlib.Core.Path.{◌≡◌}
+use lib.ListN.{length}
 use Rattle.epochwords.specs.Words.{set_shares}
-use Rattle.epochwords.proofs.EntryCode.{all_left, within_record, epoch_small, store_turn, store_done}
 use Rattle.epochwords.proofs.entry.store_shares.Given as goal
 
 abbrev pub invariant-loop-i : goal.invariant-loop-i

@@ -1,10 +1,9 @@
-use Prim.Native.Nat.{◌+◌, ◌-◌, ◌≤◌}
-use mathlib.Core.Path.{◌≡◌, ◌∙◌}
-use mathlib.Core.Bool.{◌&&◌}
+-- `epoch_in_range` meets its contract. The invariant: what was found so far, and the small words of the records from here on. Assumes nothing.
+use mathlib.Core.Path.{◌∙◌}
 use native.Mathlib.Omega.{arith}
 use Rattle.steps.proofs.BitLaws.{shifted}
 use Rattle.epochwords.proofs.BatchCode.{all_left}
-use Rattle.epochwords.proofs.RangeCode.{smalls_in_range, epoch_code, epoch_vacant, smalls_turn, smalls_over}
+use Rattle.epochwords.proofs.RangeCode.{epoch_code, epoch_vacant, smalls_turn, smalls_over}
 use Rattle.epochwords.proofs.range.epoch_in_range.Goals as goal
 
 pub overflow_shl-limit : goal.overflow_shl-limit

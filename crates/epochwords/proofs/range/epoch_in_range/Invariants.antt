@@ -1,10 +1,7 @@
-use Prim.Native.Nat.{◌+◌, ◌-◌, ◌≤◌}
-use mathlib.Core.Path.{◌≡◌, ◌∙◌}
+use Prim.Native.Nat.{◌-◌, ◌≤◌}
+use mathlib.Core.Path.{◌≡◌}
 use mathlib.Core.Bool.{◌&&◌}
-use native.Mathlib.Omega.{arith}
-use Rattle.steps.proofs.BitLaws.{shifted}
-use Rattle.epochwords.proofs.BatchCode.{all_left}
-use Rattle.epochwords.proofs.RangeCode.{smalls_in_range, epoch_code, epoch_vacant, smalls_turn, smalls_over}
+use Rattle.epochwords.proofs.RangeCode.{smalls_in_range}
 use Rattle.epochwords.proofs.range.epoch_in_range.Given as goal
 
 abbrev pub invariant-loop-p : goal.invariant-loop-p

@@ -1,10 +1,7 @@
-use Prim.Native.Nat.{ℕ, ◌-◌, ◌^◌, ◌≤◌}
-use mathlib.Core.Path.{◌≡◌, ◌∙◌}
-use mathlib.Core.Bool.{◌&&◌}
+-- `join` meets its contract. The invariant: what was joined so far, and the words from here on. Assumes nothing.
+use mathlib.Core.Path.{◌∙◌}
 use native.Mathlib.Omega.{arith}
 use lib.ListN.{length}
-use lib.Dec.{ltb}
-use Rattle.epochwords.specs.Words.{all_from}
 use Rattle.epochwords.proofs.RangeCode.{join_first, join_turn, join_over}
 use Rattle.epochwords.proofs.range.join.Goals as goal
 

@@ -1,11 +1,9 @@
 use Prim.Native.Nat.{ℕ, ◌-◌, ◌^◌, ◌≤◌}
-use mathlib.Core.Path.{◌≡◌, ◌∙◌}
+use mathlib.Core.Path.{◌≡◌}
 use mathlib.Core.Bool.{◌&&◌}
-use native.Mathlib.Omega.{arith}
 use lib.ListN.{length}
 use lib.Dec.{ltb}
 use Rattle.epochwords.specs.Words.{all_from}
-use Rattle.epochwords.proofs.RangeCode.{join_first, join_turn, join_over}
 use Rattle.epochwords.proofs.range.join.Given as goal
 
 abbrev pub invariant-loop-i : goal.invariant-loop-i

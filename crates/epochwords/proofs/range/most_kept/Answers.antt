@@ -1,5 +1,5 @@
+-- `most_kept` meets its contract, by cases of the strategy. Assumes nothing.
 use Rattle.epochwords.specs.Words.{most_kept}
-use borrow.Author.Rules.{rules}
 use Rattle.epochwords.proofs.range.most_kept.Goals as goal
 
 pub returns-in-Incremental : goal.returns-in-Incremental

@@ -1,8 +1,8 @@
+-- `small_in_range` meets its contract: the definition's tests. Assumes nothing.
 use mathlib.Core.Path.{refl}
 use native.Mathlib.Omega.{arith}
 use Rattle.epochwords.specs.Words.{small_in_range}
 use Rattle.epochwords.proofs.RangeCode.{record_end}
-use borrow.Author.Rules.{rules}
 use Rattle.epochwords.proofs.range.small_in_range.Goals as goal
 
 pub overflow_mul-at : goal.overflow_mul-at

@@ -1,3 +1,4 @@
+-- `accepted` meets its contract, state by state. Assumes nothing.
 use borrow.Author.Rules.{rules}
 use Rattle.proposal.specs.Proposal.{accepted}
 use Rattle.proposal.proofs.ProposalState.accepted.Goals as goal

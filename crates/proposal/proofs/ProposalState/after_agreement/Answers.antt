@@ -1,5 +1,5 @@
+-- `after_agreement` meets its contract, by state and decision. Assumes nothing.
 use mathlib.Core.Path.{◌∙◌}
-use borrow.Author.Rules.{rules}
 use borrow.Author.Tests.{eq-eqb, ne_eqb}
 use Rattle.proposal.specs.Proposal.{after_agreement}
 use Rattle.proposal.proofs.ProposalState.after_agreement.Goals as goal

@@ -1,9 +1,8 @@
-use Prim.Native.Nat.{ℕ}
-use mathlib.Core.Path.{◌≡◌, sym, ap, ◌∙◌}
+-- `after_value` meets its contract: no value, or by the state. Assumes nothing.
+use mathlib.Core.Path.{sym, ap, ◌∙◌}
 use mathlib.Core.Bool.{false≢true}
-use borrow.Author.Rules.{rules}
 use Rattle.steps.specs.Runs.{leaves}
-use Rattle.proposal.specs.Proposal.{asks_broadcast, after_value}
+use Rattle.proposal.specs.Proposal.{asks_broadcast}
 use Rattle.proposal.proofs.ProposalCode.{ends_with, value_missing, value_votes, value_output}
 use Rattle.proposal.proofs.ProposalState.after_value.Goals as goal
 

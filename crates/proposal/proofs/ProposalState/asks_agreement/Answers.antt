@@ -1,3 +1,4 @@
+-- `asks_agreement` meets its contract, state by state. Assumes nothing.
 use borrow.Author.Rules.{rules}
 use Rattle.proposal.specs.Proposal.{asks_agreement}
 use Rattle.proposal.proofs.ProposalState.asks_agreement.Goals as goal

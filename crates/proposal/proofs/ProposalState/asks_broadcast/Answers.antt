@@ -1,3 +1,4 @@
+-- `asks_broadcast` meets its contract, state by state. Assumes nothing.
 use borrow.Author.Rules.{rules}
 use Rattle.proposal.specs.Proposal.{asks_broadcast}
 use Rattle.proposal.proofs.ProposalState.asks_broadcast.Goals as goal

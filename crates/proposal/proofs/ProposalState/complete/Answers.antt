@@ -1,3 +1,4 @@
+-- `complete` meets its contract, state by state. Assumes nothing.
 use borrow.Author.Rules.{rules}
 use Rattle.proposal.specs.Proposal.{complete}
 use Rattle.proposal.proofs.ProposalState.complete.Goals as goal

@@ -1,5 +1,5 @@
+-- `handle_agreement` meets its contract: the proposal does not ask, or by what the instance has told. Assumes nothing.
 use mathlib.Core.Path.{sym, ap, ◌∙◌}
-use borrow.Author.Rules.{rules}
 use borrow.Author.Tests.{not-true, not-false}
 use Rattle.steps.specs.Runs.{leaves}
 use Rattle.steps.proofs.RunLaws.{onward_go, onward_refused, onward_failed}

@@ -1,5 +1,5 @@
+-- `instance_answer` meets its contract, by the answer. Assumes nothing.
 use mathlib.Core.Path.{sym, ap, ◌∙◌}
-use borrow.Author.Rules.{rules}
 use Rattle.steps.specs.Steps.{put_all}
 use Rattle.steps.specs.Runs.{leaves}
 use Rattle.proposal.proofs.ProposalCode.{parts_beside, told_refused, told_failed, told_parts}

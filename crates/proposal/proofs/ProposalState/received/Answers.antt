@@ -1,3 +1,4 @@
+-- `received` meets its contract, state by state. Assumes nothing.
 use borrow.Author.Rules.{rules}
 use Rattle.proposal.specs.Proposal.{received}
 use Rattle.proposal.proofs.ProposalState.received.Goals as goal

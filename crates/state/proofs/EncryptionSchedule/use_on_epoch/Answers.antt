@@ -1,3 +1,4 @@
+-- `use_on_epoch` meets its contract, kind by kind. Assumes nothing.
 use native.Mathlib.Omega.{arith}
 use borrow.Author.Rules.{rules}
 use Rattle.state.specs.Schedule.{use_on_epoch}

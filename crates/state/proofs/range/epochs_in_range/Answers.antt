@@ -1,10 +1,6 @@
-use Prim.Native.Nat.{◌+◌, ◌*◌, ◌≤◌}
-use mathlib.Core.Path.{◌≡◌, refl, sym, ◌∙◌}
-use mathlib.Core.Bool.{◌&&◌}
+-- `epochs_in_range` meets its contract. The invariant: what was found so far, and the epochs from here on. Assumes nothing.
+use mathlib.Core.Path.{refl, sym, ◌∙◌}
 use native.Mathlib.Omega.{arith}
-use borrow.Author.Rules.{rules}
-use lib.ListN.{length as len}
-use Rattle.state.specs.State.{ahead, nodes, epochs_at, epochs_in_range}
 use Rattle.state.proofs.WordsCode.{state_small, header_inside}
 use Rattle.state.proofs.RangeCode.{epochs_turn, epochs_over, part_epoch, room_turn}
 use Rattle.state.proofs.range.epochs_in_range.Goals as goal

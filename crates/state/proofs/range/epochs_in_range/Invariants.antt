@@ -1,12 +1,8 @@
 use Prim.Native.Nat.{◌+◌, ◌*◌, ◌≤◌}
-use mathlib.Core.Path.{◌≡◌, refl, sym, ◌∙◌}
+use mathlib.Core.Path.{◌≡◌}
 use mathlib.Core.Bool.{◌&&◌}
-use native.Mathlib.Omega.{arith}
-use borrow.Author.Rules.{rules}
 use lib.ListN.{length as len}
 use Rattle.state.specs.State.{ahead, nodes, epochs_at, epochs_in_range}
-use Rattle.state.proofs.WordsCode.{state_small, header_inside}
-use Rattle.state.proofs.RangeCode.{epochs_turn, epochs_over, part_epoch, room_turn}
 use Rattle.state.proofs.range.epochs_in_range.Given as goal
 
 abbrev pub invariant-loop-left : goal.invariant-loop-left

@@ -1,4 +1,4 @@
-use borrow.Author.Rules.{rules}
+-- `figure` meets its contract: the entry that it reads is inside the table and right. Assumes nothing.
 use Rattle.state.proofs.Sheet.{sheet_right}
 use Rattle.state.proofs.range.figure.Goals as goal
 

@@ -1,5 +1,5 @@
+-- `header_in_range` meets its contract: the definition's tests in its order, after those that keep sums small. Assumes nothing.
 use native.Mathlib.Omega.{arith}
-use borrow.Author.Rules.{rules}
 use Rattle.state.specs.State.{header_tests}
 use Rattle.state.proofs.RangeCode.{header_large, header_small, in_order, vacant_zero}
 use Rattle.state.proofs.range.header_in_range.Goals as goal

@@ -1,4 +1,4 @@
-use borrow.Author.Rules.{rules}
+-- `scratch_length` meets its contract. Assumes nothing.
 use Rattle.state.specs.State.{scratch_length}
 use Rattle.state.proofs.range.scratch_length.Goals as goal
 

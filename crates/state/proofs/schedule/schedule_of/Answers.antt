@@ -1,3 +1,4 @@
+-- `schedule_of` meets its contract, by the kind. Assumes nothing.
 use borrow.Author.Tests.{ne_eqb}
 use Rattle.state.specs.Schedule.{schedule_of}
 use Rattle.state.proofs.schedule.schedule_of.Goals as goal

@@ -1,5 +1,5 @@
+-- `schedule_ok` meets its contract, kind by kind. Assumes nothing.
 use native.Mathlib.Omega.{arith}
-use borrow.Author.Rules.{rules}
 use Rattle.state.proofs.Schedules.{ok_none, ok_nth, ok_tick, ok_large, ok_other}
 use Rattle.state.proofs.schedule.schedule_ok.Goals as goal
 

@@ -1,3 +1,4 @@
+-- `used_first` meets its contract. Assumes nothing.
 use borrow.Author.Tests.{le-leb, lt-leb}
 use Rattle.state.specs.Schedule.{used_first}
 use Rattle.state.proofs.schedule.used_first.Goals as goal

@@ -1,3 +1,4 @@
+-- `used_second` meets its contract. Assumes nothing.
 use borrow.Author.Tests.{le-leb, lt-leb}
 use Rattle.state.specs.Schedule.{used_second}
 use Rattle.state.proofs.schedule.used_second.Goals as goal

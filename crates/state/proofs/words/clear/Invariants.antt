@@ -1,9 +1,7 @@
-use Prim.Native.Nat.{◌+◌, ◌-◌, ◌≤◌}
-use mathlib.Core.Path.{◌≡◌, refl, ap, ◌∙◌}
+use Prim.Native.Nat.{◌-◌, ◌≤◌}
+use mathlib.Core.Path.{◌≡◌}
 use mathlib.Core.List.{◌++◌}
-use native.Mathlib.Omega.{arith}
-use lib.ListN.{length, take, drop, replicate, length-replicate}
-use Rattle.state.proofs.WordsCode.{clear_word, copy_long, copy_done}
+use lib.ListN.{length, take, drop, replicate}
 use Rattle.state.proofs.words.clear.Given as goal
 
 abbrev pub invariant-loop-i : goal.invariant-loop-i

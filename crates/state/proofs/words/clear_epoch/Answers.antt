@@ -1,5 +1,5 @@
+-- `clear_epoch` meets its contract: a part of the state is cleared. Assumes nothing.
 use native.Mathlib.Omega.{arith}
-use borrow.Author.Rules.{rules}
 use Rattle.state.proofs.WordsCode.{header_inside, place_inside, state_small, part_clear}
 use Rattle.state.proofs.words.clear_epoch.Goals as goal
 

@@ -1,4 +1,4 @@
-use borrow.Author.Rules.{rules}
+-- `encrypted_in` meets its contract. Assumes nothing.
 use Rattle.state.specs.State.{encrypted_in}
 use Rattle.state.proofs.words.encrypted_in.Goals as goal
 

@@ -1,5 +1,5 @@
+-- `epoch_length` meets its contract: the numbers are small. Assumes nothing.
 use native.Mathlib.Omega.{arith}
-use borrow.Author.Rules.{rules}
 use Rattle.state.proofs.WordsCode.{epoch_small}
 use Rattle.state.proofs.words.epoch_length.Goals as goal
 

@@ -1,5 +1,5 @@
+-- `place_of` meets its contract: the place is inside the state, so that the code's numbers fit. Assumes nothing.
 use native.Mathlib.Omega.{arith}
-use borrow.Author.Rules.{rules}
 use Rattle.state.proofs.WordsCode.{header_inside, place_inside, place_code, state_small}
 use Rattle.state.proofs.words.place_of.Goals as goal
 

@@ -1,6 +1,6 @@
+-- `store` meets its contract: a part of the state is written. Assumes nothing.
 use mathlib.Core.Path.{sym, ap, ◌∙◌}
 use native.Mathlib.Omega.{arith}
-use borrow.Author.Rules.{rules}
 use lib.ListN.{length}
 use Rattle.state.proofs.WordsCode.{place_inside, state_small, part_words, part_back, words_epoch}
 use Rattle.state.proofs.words.store.Goals as goal

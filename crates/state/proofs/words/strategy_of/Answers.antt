@@ -1,4 +1,4 @@
-use borrow.Author.Rules.{rules}
+-- `strategy_of` meets its contract. Assumes nothing.
 use borrow.Author.Tests.{ne_eqb}
 use Rattle.state.specs.State.{strategy_of}
 use Rattle.state.proofs.words.strategy_of.Goals as goal

@@ -1,3 +1,4 @@
+-- `with_bit` meets its contract: a bit that is not set can be added. Assumes nothing.
 use mathlib.Core.Path.{sym, ◌∙◌}
 use borrow.Author.Rules.{rules}
 use Rattle.steps.specs.Bits.{with_bit}

@@ -1,8 +1,8 @@
+-- `ask_about_at` meets its contract, by what `peek` found. Assumes nothing.
 use mathlib.Core.Path.{sym, ◌∙◌}
 use borrow.Author.Tests.{not-true, not-false}
 use Rattle.steps.specs.Answers.{ask_about}
 use Rattle.steps.proofs.ChainLaws.{asked_end, asked_got, asked_other}
-use borrow.Author.Rules.{rules}
 use Rattle.steps.proofs.reader.ask_about_at.Goals as goal
 
 pub returns-then-not-wanted : goal.returns-then-not-wanted

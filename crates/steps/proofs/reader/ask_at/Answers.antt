@@ -1,8 +1,8 @@
+-- `ask_at` meets its contract, by what `peek` found. Assumes nothing.
 use mathlib.Core.Path.{sym, ◌∙◌}
 use borrow.Author.Tests.{eq-eqb, ne_eqb}
 use Rattle.steps.specs.Answers.{ask}
 use Rattle.steps.proofs.ChainLaws.{asked_end, asked_got, asked_other}
-use borrow.Author.Rules.{rules}
 use Rattle.steps.proofs.reader.ask_at.Goals as goal
 
 pub returns-then-found-kind : goal.returns-then-found-kind

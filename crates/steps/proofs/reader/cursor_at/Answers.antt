@@ -1,3 +1,4 @@
+-- `cursor_at` meets its contract. Assumes nothing.
 use Rattle.steps.proofs.reader.cursor_at.Goals as goal
 
 pub returns : goal.returns

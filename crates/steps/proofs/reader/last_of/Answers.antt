@@ -1,3 +1,4 @@
+-- `last_of` meets its contract, by cases of the later output. Assumes nothing.
 use Rattle.steps.specs.Parts.{last_of}
 use Rattle.steps.proofs.reader.last_of.Goals as goal
 

@@ -1,3 +1,4 @@
+-- `output_of` meets its contract: kind 18 has an output. Assumes nothing.
 use borrow.Author.Tests.{eq-eqb, ne_eqb}
 use Rattle.steps.specs.Parts.{output_of}
 use Rattle.steps.proofs.reader.output_of.Goals as goal

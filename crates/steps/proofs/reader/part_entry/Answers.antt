@@ -1,3 +1,4 @@
+-- `part_entry` meets its contract: a message, a fault, or no entry. Assumes nothing.
 use mathlib.Core.Path.{◌∙◌}
 use Rattle.steps.proofs.Parts.{message_part_lem, fault_part_lem, other_part}
 use Rattle.steps.proofs.reader.part_entry.Goals as goal

@@ -1,3 +1,4 @@
+-- `peek` meets its contract: no record at 0 or past the table, else the record, with its next or the end. Assumes nothing.
 use mathlib.Core.Path.{sym, ◌∙◌}
 use native.Mathlib.Omega.{arith}
 use Rattle.steps.proofs.ChainLaws.{head_off, head_on, off_at_zero, off_past, on_record_lem, link_up, link_end}

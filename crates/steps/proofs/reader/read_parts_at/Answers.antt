@@ -1,3 +1,5 @@
+-- `read_parts_at` meets its contract. The invariant: what the parts from here on leave is what the parts from the start leave. The
+-- measure is how many records are left. Assumes nothing.
 use mathlib.Core.Path.{refl, sym, ◌∙◌}
 use borrow.Author.Tests.{not-true, not-false}
 use borrow.Author.Rules.{rules}

@@ -1,3 +1,4 @@
+-- `next_of` meets its contract. Assumes nothing.
 use borrow.Author.Tests.{eq-eqb, ne_eqb}
 use Rattle.steps.specs.Steps.{next_of}
 use Rattle.steps.proofs.step.next_of.Goals as goal

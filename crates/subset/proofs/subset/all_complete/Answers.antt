@@ -1,7 +1,7 @@
+-- `all_complete` meets its contract: the incomplete ones are none. Assumes nothing.
 use Prim.Native.Nat.{ℕ}
 use mathlib.Core.Path.{ap, ◌∙◌}
 use lib.Dec.{eqb}
-use borrow.Author.Rules.{rules}
 use Rattle.subset.proofs.Bits.{incomplete_none}
 use Rattle.subset.proofs.subset.all_complete.Goals as goal
 

@@ -1,5 +1,5 @@
+-- `handle_message_at` meets its contract. Assumes nothing.
 use mathlib.Core.Path.{sym, ap, ◌∙◌}
-use borrow.Author.Rules.{rules}
 use Rattle.steps.specs.Runs.{leaves}
 use Rattle.subset.proofs.SubsetCode.{then_left, message_onward}
 use Rattle.subset.proofs.subset.handle_message_at.Goals as goal

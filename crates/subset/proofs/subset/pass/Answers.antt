@@ -1,4 +1,4 @@
-use borrow.Author.Rules.{rules}
+-- `pass` meets its contract, by the outcome. Assumes nothing.
 use Rattle.subset.proofs.subset.pass.Goals as goal
 
 pub returns-in-Nothing : goal.returns-in-Nothing

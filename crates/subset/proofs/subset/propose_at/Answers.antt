@@ -1,5 +1,5 @@
+-- `propose_at` meets its contract: an observer, or the own proposal is broadcast. Assumes nothing.
 use mathlib.Core.Path.{sym, ap, ◌∙◌}
-use borrow.Author.Rules.{rules}
 use borrow.Author.Tests.{not-true, not-false, ltb-true}
 use Rattle.steps.specs.Steps.{put_all}
 use Rattle.steps.specs.Runs.{leaves}

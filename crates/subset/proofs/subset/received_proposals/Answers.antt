@@ -1,3 +1,4 @@
+-- `received_proposals` meets its contract: the ones of the word of bits are as many. Assumes nothing.
 use mathlib.Core.Path.{ap, ◌∙◌}
 use native.Mathlib.Omega.{arith}
 use lib.Count.{ones, ones-le}

@@ -1,5 +1,5 @@
+-- `store_transition` meets its contract: an output is added to the list. Assumes nothing.
 use mathlib.Core.Path.{◌∙◌}
-use borrow.Author.Rules.{rules}
 use Rattle.subset.specs.Subset.{contributed}
 use Rattle.subset.proofs.SubsetCode.{no_output}
 use Rattle.subset.proofs.subset.store_transition.Goals as goal

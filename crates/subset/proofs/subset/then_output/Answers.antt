@@ -1,4 +1,4 @@
-use borrow.Author.Rules.{rules}
+-- `then_output` meets its contract, by what the call of the proposal came to. Assumes nothing.
 use Rattle.steps.specs.Steps.{put_all}
 use Rattle.subset.proofs.subset.then_output.Goals as goal
 

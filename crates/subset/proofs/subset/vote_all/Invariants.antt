@@ -1,16 +1,10 @@
-use Prim.Native.Nat.{◌+◌, ◌-◌, ◌≤◌}
-use mathlib.Core.Path.{◌≡◌, refl, sym, ap, ◌∙◌}
-use native.Mathlib.Omega.{arith}
-use borrow.Author.Rules.{rules}
+use Prim.Native.Nat.{◌-◌, ◌≤◌}
+use mathlib.Core.Path.{◌≡◌}
 use lib.ListN.{length}
 use Rattle.steps.specs.Answers.{tape_at}
-use Rattle.steps.specs.Steps.{out, put_all}
+use Rattle.steps.specs.Steps.{out}
 use Rattle.steps.specs.Runs.{leaves}
-use Rattle.steps.proofs.RunLaws.{onward_go, onward_stop}
 use Rattle.subset.specs.Subset.{vote_from}
-use Rattle.subset.specs.Outcomes.{passing_verdict}
-use Rattle.subset.proofs.WordsCode.{all_left}
-use Rattle.subset.proofs.SubsetCode.{not_passed, vote_turn, vote_done}
 use Rattle.subset.proofs.subset.vote_all.Given as goal
 
 abbrev pub invariant-loop-p : goal.invariant-loop-p

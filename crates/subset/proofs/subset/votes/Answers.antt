@@ -1,5 +1,5 @@
+-- `votes` meets its contract: exactly N − f are accepted, or not. Assumes nothing.
 use mathlib.Core.Path.{sym, ap, ◌∙◌}
-use borrow.Author.Rules.{rules}
 use Rattle.steps.specs.Steps.{put_all}
 use Rattle.steps.specs.Runs.{leaves}
 use Rattle.subset.proofs.SubsetCode.{votes_on, votes_off}

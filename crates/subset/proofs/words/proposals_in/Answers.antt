@@ -1,9 +1,8 @@
-use Prim.Native.Nat.{ℕ, ◌+◌, ◌-◌, ◌^◌, ◌≤◌}
-use mathlib.Core.Path.{◌≡◌, ap, ◌∙◌}
+-- `proposals_in` meets its contract. The invariant: the bits so far and those from here on make up the word. Assumes nothing.
+use Prim.Native.Nat.{ℕ, ◌^◌}
+use mathlib.Core.Path.{ap, ◌∙◌}
 use mathlib.Core.Bool.{Bool, cond}
 use native.Mathlib.Omega.{arith}
-use borrow.Author.Rules.{rules}
-use Rattle.steps.specs.Bits.{bits_from}
 use Rattle.subset.specs.Words.{proposal_tag}
 use Rattle.subset.specs.Bits.{tag_in, proposals_in}
 use Rattle.subset.proofs.WordsCode.{before_end, bits_turn, bits_done, bits_small, all_left}

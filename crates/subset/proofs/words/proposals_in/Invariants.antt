@@ -1,12 +1,8 @@
-use Prim.Native.Nat.{ℕ, ◌+◌, ◌-◌, ◌^◌, ◌≤◌}
-use mathlib.Core.Path.{◌≡◌, ap, ◌∙◌}
-use mathlib.Core.Bool.{Bool, cond}
-use native.Mathlib.Omega.{arith}
-use borrow.Author.Rules.{rules}
+use Prim.Native.Nat.{ℕ, ◌+◌, ◌-◌, ◌≤◌}
+use mathlib.Core.Path.{◌≡◌}
 use Rattle.steps.specs.Bits.{bits_from}
 use Rattle.subset.specs.Words.{proposal_tag}
-use Rattle.subset.specs.Bits.{tag_in, proposals_in}
-use Rattle.subset.proofs.WordsCode.{before_end, bits_turn, bits_done, bits_small, all_left}
+use Rattle.subset.specs.Bits.{tag_in}
 use Rattle.subset.proofs.words.proposals_in.Given as goal
 
 abbrev pub invariant-loop-p : goal.invariant-loop-p

@@ -1,6 +1,6 @@
+-- `record_at` meets its contract: a place is small. Assumes nothing.
 use native.Mathlib.Omega.{arith}
 use Rattle.subset.proofs.WordsCode.{place_small}
-use borrow.Author.Rules.{rules}
 use Rattle.subset.proofs.words.record_at.Goals as goal
 
 pub overflow_mul-result : goal.overflow_mul-result

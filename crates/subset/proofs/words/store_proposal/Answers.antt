@@ -1,5 +1,5 @@
+-- `store_proposal` meets its contract: both words are within the epoch. Assumes nothing.
 use native.Mathlib.Omega.{arith}
-use borrow.Author.Rules.{rules}
 use lib.ListN.{length-set}
 use Rattle.subset.specs.Words.{store_proposal}
 use Rattle.subset.proofs.ProposalStored.{within_epoch}

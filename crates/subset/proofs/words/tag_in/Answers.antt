@@ -1,7 +1,7 @@
+-- `tag_in` meets its contract: a tag above the last is the last. Assumes nothing.
 use Prim.Native.Nat.{min}
 use mathlib.Core.Path.{◌≡◌}
 use native.Mathlib.Omega.{arith}
-use borrow.Author.Rules.{rules}
 use Rattle.steps.specs.Bits.{has_bit}
 use Rattle.subset.specs.Bits.{tag_in}
 use Rattle.subset.proofs.words.tag_in.Goals as goal

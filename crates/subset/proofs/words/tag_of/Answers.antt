@@ -1,3 +1,4 @@
+-- `tag_of` meets its contract, state by state. Assumes nothing.
 use borrow.Author.Rules.{rules}
 use Rattle.subset.specs.Words.{tag_of}
 use Rattle.subset.proofs.words.tag_of.Goals as goal

@@ -1,3 +1,4 @@
+-- `value_of` meets its contract, state by state. Assumes nothing.
 use borrow.Author.Rules.{rules}
 use Rattle.subset.specs.Words.{value_of}
 use Rattle.subset.proofs.words.value_of.Goals as goal

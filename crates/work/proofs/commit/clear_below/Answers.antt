@@ -1,10 +1,7 @@
-use Prim.Native.Nat.{◌+◌, ◌-◌, ◌≤◌}
-use mathlib.Core.Path.{◌≡◌, refl, sym, ap, ◌∙◌}
+-- `clear_below` meets its contract. The invariant: clearing from here on is clearing from the start. Assumes nothing.
+use Prim.Native.Nat.{◌+◌, ◌-◌}
+use mathlib.Core.Path.{refl, sym, ap, ◌∙◌}
 use native.Mathlib.Omega.{arith}
-use borrow.Author.Rules.{rules}
-use lib.ListN.{length}
-use Rattle.state.specs.State.{ahead, current_epoch}
-use Rattle.state.specs.Shape.{StateWords}
 use Rattle.state.proofs.WordsCode.{header_inside, without_kept}
 use Rattle.work.specs.HoneyBadger.{clear_below}
 use Rattle.work.proofs.ClearingIsSkipping.{clear_none}

@@ -1,14 +1,9 @@
-use Prim.Native.Nat.{◌+◌, ◌-◌, ◌≤◌}
-use mathlib.Core.Path.{◌≡◌, refl, sym, ap, ◌∙◌}
-use native.Mathlib.Omega.{arith}
-use borrow.Author.Rules.{rules}
+use Prim.Native.Nat.{◌+◌, ◌≤◌}
+use mathlib.Core.Path.{◌≡◌}
 use lib.ListN.{length}
 use Rattle.state.specs.State.{ahead, current_epoch}
 use Rattle.state.specs.Shape.{StateWords}
-use Rattle.state.proofs.WordsCode.{header_inside, without_kept}
 use Rattle.work.specs.HoneyBadger.{clear_below}
-use Rattle.work.proofs.ClearingIsSkipping.{clear_none}
-use Rattle.work.proofs.CommitCode.{clear_turn, clear_over}
 use Rattle.work.proofs.commit.clear_below.Given as goal
 
 abbrev pub invariant-loop-left : goal.invariant-loop-left

@@ -1,5 +1,5 @@
+-- `commit` meets its contract: the epoch is stored in what the commit writes on, then skipped from. Assumes nothing.
 use mathlib.Core.Path.{sym, ap, ◌∙◌}
-use borrow.Author.Rules.{rules}
 use Rattle.subset.specs.Words.{epoch_length}
 use Rattle.state.specs.State.{with_epoch}
 use Rattle.state.proofs.WordsCode.{header_inside, with_kept}

@@ -1,6 +1,6 @@
+-- `count_faults` meets its contract: the sum is tested before it is computed. Assumes nothing.
 use Prim.Native.Nat.{◌+◌}
 use native.Mathlib.Omega.{arith}
-use borrow.Author.Rules.{rules}
 use borrow.Author.Tests.{le-leb, lt-leb}
 use Rattle.steps.specs.Numbers.{fault_limit}
 use Rattle.state.specs.State.{fault_count}

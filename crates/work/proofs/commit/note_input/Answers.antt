@@ -1,4 +1,4 @@
-use borrow.Author.Rules.{rules}
+-- `note_input` meets its contract, by the call. Assumes nothing.
 use Rattle.work.proofs.commit.note_input.Goals as goal
 
 pub returns-in-Propose : goal.returns-in-Propose

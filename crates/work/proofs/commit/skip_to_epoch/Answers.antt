@@ -1,5 +1,5 @@
+-- `skip_to_epoch` meets its contract. Assumes nothing.
 use native.Mathlib.Omega.{arith}
-use borrow.Author.Rules.{rules}
 use borrow.Author.Tests.{le-leb, lt-leb}
 use lib.ListN.{length-set}
 use Rattle.state.proofs.WordsCode.{header_inside}

@@ -1,5 +1,5 @@
+-- `call_body` meets its contract, by what comes to the epoch. What it requires holds of a state in range. Assumes nothing.
 use mathlib.Core.Path.{ap, ◌∙◌}
-use borrow.Author.Rules.{rules}
 use Rattle.steps.specs.Runs.{leaves}
 use Rattle.state.specs.State.{nodes}
 use Rattle.state.proofs.WordsCode.{header_inside}

@@ -1,6 +1,6 @@
+-- `call_epoch` meets its contract: the epoch is loaded and built, then its call runs. Assumes nothing.
 use mathlib.Core.Path.{ap, ◌∙◌}
 use native.Mathlib.Omega.{arith}
-use borrow.Author.Rules.{rules}
 use Rattle.steps.specs.Answers.{tape_at}
 use Rattle.steps.specs.Steps.{put_all}
 use Rattle.epoch.specs.Outcomes.{outcome_verdict}

@@ -1,4 +1,4 @@
-use borrow.Author.Rules.{rules}
+-- `input_of` meets its contract, by the call. Assumes nothing.
 use Rattle.work.proofs.honey_badger.input_of.Goals as goal
 
 pub returns-in-Propose : goal.returns-in-Propose

@@ -1,6 +1,6 @@
+-- `run` meets its contract, from what its parts left. Assumes nothing.
 use mathlib.Core.Path.{ap, ◌∙◌}
 use native.Mathlib.Omega.{arith}
-use borrow.Author.Rules.{rules}
 use Rattle.steps.specs.Answers.{tape_at}
 use Rattle.epoch.specs.Outcomes.{outcome_verdict}
 use Rattle.epoch.proofs.ContributionCode.{not_done}

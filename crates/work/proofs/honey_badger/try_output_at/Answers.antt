@@ -1,5 +1,5 @@
+-- `try_output_at` meets its contract: the words are those of the call's epoch, or a part of the state. Assumes nothing.
 use native.Mathlib.Omega.{arith}
-use borrow.Author.Rules.{rules}
 use Rattle.state.proofs.WordsCode.{place_inside, state_small, part_words, words_epoch}
 use Rattle.work.proofs.BatchTurnCode.{beside_own, beside_other}
 use Rattle.work.proofs.honey_badger.try_output_at.Goals as goal

@@ -1,7 +1,7 @@
+-- `try_output_batch` meets its contract, by what its two callees leave. Assumes nothing.
 use mathlib.Core.Path.{sym, ap, ◌∙◌}
 use mathlib.Core.Bool.{true}
 use native.Mathlib.Omega.{arith}
-use borrow.Author.Rules.{rules}
 use borrow.Author.Tests.{not-true, not-false}
 use Rattle.steps.specs.Steps.{put_all}
 use Rattle.steps.specs.Runs.{going, ends}

@@ -1,12 +1,11 @@
-use Prim.Native.Nat.{suc, ◌+◌, ◌-◌, ◌≤◌}
+-- `try_output_batches` meets its contract. The invariant: what the batches from here on leave is what all leave. Assumes nothing.
+use Prim.Native.Nat.{suc, ◌-◌}
 use mathlib.Core.Path.{◌≡◌, refl, sym, ap, ◌∙◌}
 use native.Mathlib.Omega.{arith}
-use borrow.Author.Rules.{rules}
-use lib.ListN.{length}
 use Rattle.steps.specs.Answers.{tape_at}
 use Rattle.steps.specs.Steps.{out, put_all}
 use Rattle.steps.specs.Runs.{leaves}
-use Rattle.state.specs.State.{nodes, ahead, current_epoch}
+use Rattle.state.specs.State.{nodes}
 use Rattle.state.proofs.WordsCode.{header_inside}
 use Rattle.work.specs.Work.{beside, batches_from}
 use Rattle.work.specs.Shape.{tried_verdict}

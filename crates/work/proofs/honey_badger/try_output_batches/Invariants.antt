@@ -1,16 +1,11 @@
-use Prim.Native.Nat.{suc, ◌+◌, ◌-◌, ◌≤◌}
-use mathlib.Core.Path.{◌≡◌, refl, sym, ap, ◌∙◌}
-use native.Mathlib.Omega.{arith}
-use borrow.Author.Rules.{rules}
+use Prim.Native.Nat.{◌+◌, ◌≤◌}
+use mathlib.Core.Path.{◌≡◌}
 use lib.ListN.{length}
 use Rattle.steps.specs.Answers.{tape_at}
-use Rattle.steps.specs.Steps.{out, put_all}
+use Rattle.steps.specs.Steps.{out}
 use Rattle.steps.specs.Runs.{leaves}
 use Rattle.state.specs.State.{nodes, ahead, current_epoch}
-use Rattle.state.proofs.WordsCode.{header_inside}
 use Rattle.work.specs.Work.{beside, batches_from}
-use Rattle.work.specs.Shape.{tried_verdict}
-use Rattle.work.proofs.BatchTurnCode.{tried_goes, tried_stops, none_left}
 use Rattle.work.proofs.honey_badger.try_output_batches.Given as goal
 
 abbrev pub invariant-loop-left : goal.invariant-loop-left

@@ -1,4 +1,4 @@
-use borrow.Author.Rules.{rules}
+-- `Numbers::are_ok` meets its contract: the definition's tests in its order, after the one that keeps the product small. Assumes nothing.
 use Rattle.engine.specs.Shape.{numbers_of}
 use Rattle.engine.proofs.CreateCode.{numbers_off, numbers_joined}
 use Rattle.engine.proofs.create.Numbers.are_ok.Goals as goal

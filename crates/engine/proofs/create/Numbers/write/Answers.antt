@@ -1,5 +1,5 @@
+-- `Numbers::write` meets its contract: the header word by word into zeros. Assumes nothing.
 use native.Mathlib.Omega.{arith}
-use borrow.Author.Rules.{rules}
 use lib.ListN.{length-set}
 use Rattle.state.proofs.Window.{header_first}
 use Rattle.engine.specs.Shape.{numbers_of}

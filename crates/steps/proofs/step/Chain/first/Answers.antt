@@ -1,3 +1,4 @@
+-- `first` meets its contract. Assumes nothing.
 use borrow.Author.Tests.{eq-eqb, ne_eqb}
 use Rattle.steps.specs.Steps.{first_of}
 use Rattle.steps.proofs.step.Chain.first.Goals as goal

@@ -1,3 +1,4 @@
+-- `put` meets its contract: past the limit nothing moves, past the table only the place does, and else the record is set. Assumes nothing.
 use native.Mathlib.Omega.{arith}
 use lib.ListN.{length-set}
 use borrow.Author.Tests.{le-ltb, lt-ltb, le-leb, lt-leb}

@@ -1,3 +1,4 @@
+-- `fault` meets its contract: the chain and the words are what `put` left. Assumes nothing.
 use Rattle.steps.proofs.ChainLaws.{fault_put}
 use Rattle.steps.proofs.step.Step.fault.Goals as goal
 

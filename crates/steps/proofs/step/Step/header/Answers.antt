@@ -1,3 +1,4 @@
+-- `header` meets its contract: four words are set. Assumes nothing.
 use native.Mathlib.Omega.{arith}
 use lib.ListN.{length-set}
 use Rattle.steps.specs.Steps.{put_header}

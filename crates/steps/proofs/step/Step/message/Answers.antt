@@ -1,3 +1,4 @@
+-- `message` meets its contract: the chain and the words are what `put` left. Assumes nothing.
 use Rattle.steps.proofs.ChainLaws.{message_put}
 use Rattle.steps.proofs.step.Step.message.Goals as goal
 

@@ -1,3 +1,4 @@
+-- `output` meets its contract: the chain and the words are what `put` left. Assumes nothing.
 use Rattle.steps.proofs.ChainLaws.{output_put}
 use Rattle.steps.proofs.step.Step.output.Goals as goal
 
