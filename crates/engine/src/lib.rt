@@ -1,5 +1,5 @@
 // The epoch engine, after honey_badger/honey_badger.rs: what a host calls, with numbers and slices of words (include/belkjund.h). No entry point
-// requires anything of what it is lent.
+// requires anything of what it is lent. crates/engine_c exports the eight functions to C.
 #![tactic(auto)]
 
 ghost use Rattle.std.specs.Prelude.{◌≡◌};
@@ -21,8 +21,7 @@ use steps::numbers::{
 use work::commit::skip_to_epoch;
 
 // Makes the words a state: reply 0, 1 for numbers out of range, 2 for another length.
-#[unsafe(no_mangle)]
-pub extern "C" fn hb_create(
+pub fn hb_create(
     n: u64,
     f: u64,
     look_ahead: u64,
@@ -61,13 +60,7 @@ pub extern "C" fn hb_create(
 }
 
 // Proposes in the current epoch. Scratch is zero afterwards, unless the reply is 3 or 4.
-#[unsafe(no_mangle)]
-pub extern "C" fn hb_propose(
-    state: &mut [u64],
-    scratch: &mut [u64],
-    answers: &[u64],
-    step: &mut [u64],
-) -> u64
+pub fn hb_propose(state: &mut [u64], scratch: &mut [u64], answers: &[u64], step: &mut [u64]) -> u64
     ensures { after result state.new scratch.new step.new
         ≡ propose_call state.old scratch.old answers.now step.old }
 {
@@ -86,8 +79,7 @@ pub extern "C" fn hb_propose(
 }
 
 // Handles a message from a node. Scratch is zero afterwards, unless the reply is 3 or 4.
-#[unsafe(no_mangle)]
-pub extern "C" fn hb_message(
+pub fn hb_message(
     sender: u64,
     epoch: u64,
     content: u64,
@@ -125,8 +117,7 @@ pub extern "C" fn hb_message(
 }
 
 // Skips to a later epoch: reply 0, 3 for words that are no state, 12 for a target above the last epoch.
-#[unsafe(no_mangle)]
-pub extern "C" fn hb_skip(target: u64, state: &mut [u64]) -> u64
+pub fn hb_skip(target: u64, state: &mut [u64]) -> u64
     ensures { (result ≡ skip_reply target state.old) × (state.new ≡ skip_state target state.old) }
 {
     if !state_ok(state) {
@@ -140,8 +131,7 @@ pub extern "C" fn hb_skip(target: u64, state: &mut [u64]) -> u64
 }
 
 // The queries: reply 0, or 3 with the result untouched.
-#[unsafe(no_mangle)]
-pub extern "C" fn hb_current_epoch(state: &[u64], res: &mut u64) -> u64
+pub fn hb_current_epoch(state: &[u64], res: &mut u64) -> u64
     ensures { (result ≡ query_reply state.now) × (res.new ≡ current_epoch_result state.now res.old) }
 {
     if !state_ok(state) {
@@ -151,8 +141,7 @@ pub extern "C" fn hb_current_epoch(state: &[u64], res: &mut u64) -> u64
     SUCCESS
 }
 
-#[unsafe(no_mangle)]
-pub extern "C" fn hb_has_input(state: &[u64], res: &mut u64) -> u64
+pub fn hb_has_input(state: &[u64], res: &mut u64) -> u64
     ensures { (result ≡ query_reply state.now) × (res.new ≡ has_input_result state.now res.old) }
 {
     if !state_ok(state) {
@@ -166,8 +155,7 @@ pub extern "C" fn hb_has_input(state: &[u64], res: &mut u64) -> u64
     SUCCESS
 }
 
-#[unsafe(no_mangle)]
-pub extern "C" fn hb_received_proposals(state: &[u64], res: &mut u64) -> u64
+pub fn hb_received_proposals(state: &[u64], res: &mut u64) -> u64
     ensures { (result ≡ query_reply state.now) × (res.new ≡ received_proposals_result state.now res.old) }
 {
     if !state_ok(state) {
@@ -177,8 +165,7 @@ pub extern "C" fn hb_received_proposals(state: &[u64], res: &mut u64) -> u64
     SUCCESS
 }
 
-#[unsafe(no_mangle)]
-pub extern "C" fn hb_fault_count(state: &[u64], res: &mut u64) -> u64
+pub fn hb_fault_count(state: &[u64], res: &mut u64) -> u64
     ensures { (result ≡ query_reply state.now) × (res.new ≡ fault_count_result state.now res.old) }
 {
     if !state_ok(state) {
