@@ -1,6 +1,6 @@
-# Belkjund. `make` lists the commands. Everything that is built goes to build/.
+# Belkjund. `make` lists the commands. Everything that is built goes to build/; what rt keeps of its proofs is in crates/*/out.
 #
-# The archive is built by proving the engine (`rt staticlib`). `make COMMAND LIB=path` links an archive that is there already instead; what is built
+# The archive is built by proving the engine (`rt lib` in crates/engine_c). `make COMMAND LIB=path` links an archive that is there already instead; what is built
 # with it goes to build/given/, so that it never passes for the proved one.
 
 PREFIX ?= /usr/local
@@ -25,7 +25,7 @@ VERSION := $(shell sed -n 's/^.define BELKJUND_VERSION "\(.*\)"/\1/p' include/be
 
 WAKE_SOURCES := $(wildcard examples/wake/*.c)
 WAKE_HEADERS := $(wildcard examples/wake/*.h)
-PROVED_FROM := crates.txt $(shell find crates -type f \( -name '*.rt' -o -name '*.antt' \) 2>/dev/null)
+PROVED_FROM := crates.txt $(shell find crates -name out -prune -o -type f \( -name '*.rt' -o -name '*.antt' \) -print 2>/dev/null)
 
 # need COMMAND,HOW TO GET IT: one line where the command is not there
 need = @command -v $(firstword $(1)) >/dev/null 2>&1 || { echo "belkjund: '$(firstword $(1))' is missing: $(2)" >&2; exit 1; }
@@ -37,13 +37,13 @@ comma := ,
 
 help:
 	@echo 'make wake             four hosts agree which of them may wake the paused guest; writes build/wake.html'
-	@echo 'make test             every test, and at last `rt ci`, which proves everything from nothing'
+	@echo 'make test             the gate: `rt ci`, which proves everything, then every other test'
 	@echo 'make checks           every test but `rt ci`'
 	@echo 'make lib              build/libbelkjund.a, by proving the engine'
 	@echo 'make install PREFIX=  header, archive and pkg-config file (now $(PREFIX))'
 	@echo 'make fuzz             hostile calls through the C interface; CALLS= how many'
 	@echo 'make bench            the engine and the original on the same recorded runs'
-	@echo 'make clean            removes build/'
+	@echo 'make clean            removes build/, and crates/*/out'
 
 # Asked for before anything long begins
 have-cc:
@@ -53,7 +53,7 @@ have-all: have-cc
 	$(need-python)
 	$(need-rt)
 
-# THE ARCHIVE. Nothing is proved again until a source changes; `rt ci` removes target/, not build/
+# THE ARCHIVE. Nothing is proved again until a source changes. `rt ci` builds none: it proves by itself, and leaves build/ and what rt keeps as they are
 lib: $(ARCHIVE)
 	@echo "belkjund: $(ARCHIVE)"
 
@@ -62,8 +62,8 @@ build/libbelkjund.a: $(PROVED_FROM)
 	@[ "$$(uname -m)" = x86_64 ] || echo "belkjund: the archive will hold x86-64 code, this machine is $$(uname -m): programs that link it run on x86-64" >&2
 	@mkdir -p build
 	@echo "belkjund: proving the engine; minutes the first time"
-	rt staticlib engine
-	@cp target/staticlib/libengine.a $@
+	cd crates/engine_c && rt lib
+	@cp crates/engine_c/out/libengine_c.a $@
 
 install: $(ARCHIVE)
 	@mkdir -p "$(DESTDIR)$(PREFIX)/include" "$(DESTDIR)$(PREFIX)/lib/pkgconfig"
@@ -128,10 +128,7 @@ check-readme: have-cc $(ARCHIVE)
 	@$(OUT)/readme | diff $(OUT)/readme.txt - && echo 'README: its snippet compiles, links and prints what it says'
 
 check-sources:
-	$(need-rt)
 	$(need-python)
-	rt fmt --check
-	python3 tools/fill.py --check
 	python3 tools/lengths.py --check
 	@if [ -f tools/documents.py ]; then echo python3 tools/documents.py; python3 tools/documents.py; fi
 
@@ -141,9 +138,9 @@ check-fuzz: have-cc $(ARCHIVE)
 
 checks: have-all check-sources check-interface check-sheet check-readme check-wake check-fuzz
 
-# The last line of a passing run is that of `rt ci`
-test: checks
-	@exec rt ci
+# The gate: its order is that of .ci/run
+test: have-all
+	@exec .ci/run
 
 fuzz: have-cc $(ARCHIVE)
 	@test -f fuzz/Makefile || { echo 'belkjund: the folder fuzz/ is missing: it is part of the repository' >&2; exit 1; }
@@ -154,6 +151,6 @@ bench: have-cc $(ARCHIVE)
 	@$(MAKE) -C bench LIB=$(abspath $(ARCHIVE)) OUT=$(abspath $(OUT)/bench) CC='$(CC)'
 
 clean:
-	rm -rf build
+	rm -rf build crates/*/out
 
 .PHONY: help have-cc have-all lib install wake test checks check-wake check-header check-interface check-sheet check-readme check-sources check-fuzz fuzz bench clean

@@ -9,17 +9,17 @@ command -v python3 > /dev/null || { echo "bench: 'python3' is missing; on Debian
 here=$(cd "$(dirname "$0")" && pwd)
 archive=$(realpath "$1")
 repeats=${2:-15}
-out=${OUT:-$here/../target/bench}
+out=${OUT:-$here/../build/bench}
 mkdir -p "$out/lib"
 rm -f "$out"/*.tsv "$out"/*.bin
-cp "$archive" "$out/lib/libengine.a"
+cp "$archive" "$out/lib/libbelkjund.a"
 echo "load average $(cut -d' ' -f1-3 /proc/loadavg)" > "$out/machine"
 grep -m1 'model name' /proc/cpuinfo | cut -d: -f2 >> "$out/machine"
 cargo --version >> "$out/machine"
 sha256sum "$archive" | cut -c1-16 >> "$out/machine"
 for profile in speed lto; do
     echo "building the original and the oracle ($profile)"
-    ENGINE=$out/lib/libengine.a PROFILE=$profile "$here/../oracle/build.sh" ${ORIGINALS:+"$ORIGINALS"}
+    ENGINE=$out/lib/libbelkjund.a PROFILE=$profile "$here/../oracle/build.sh" ${ORIGINALS:+"$ORIGINALS"}
 done
 speed=$here/../oracle/target/speed/oracle
 lto=$here/../oracle/target/lto/oracle
@@ -37,7 +37,7 @@ for size in n4-f3 n7-f3 n16-f15; do
 done
 "$speed" bench "$repeats" "$here"/../oracle/recorded/*.bin > "$out/recorded.tsv"
 echo "recorded runs measured"
-${CC:-cc} -std=c99 -O2 -Wall -Wextra -pedantic -I"$here/../include" "$here/drive.c" "$out/lib/libengine.a" -Wl,-z,now -o "$out/drive"
+${CC:-cc} -std=c99 -O2 -Wall -Wextra -pedantic -I"$here/../include" "$here/drive.c" "$out/lib/libbelkjund.a" -Wl,-z,now -o "$out/drive"
 for size in n4-f3 n7-f3 n16-f15; do
     "$out/drive" stack "$out/$size.bin" > "$out/stack-$size.txt"
 done

@@ -1,9 +1,9 @@
 #!/bin/sh
 # Copies the thirteen originals, compares them byte for byte and builds the oracle, offline.
-# usage: [ENGINE=path of libengine.a] oracle/build.sh [folder with the originals, default ../shared/docs/src/src]
+# usage: [ENGINE=path of the archive] oracle/build.sh [folder with the originals, default ../shared/docs/src/src]
 # The folder may also hold them side by side, under names like src--src--subset--subset.rs.txt.
 # PROFILE chooses one of Cargo.toml's profiles, for measuring.
-# With ENGINE the engine is linked and can be compared; `rt staticlib engine` makes target/staticlib/libengine.a.
+# With ENGINE the engine is linked and can be compared; `make lib` makes build/libbelkjund.a.
 set -eu
 here=$(cd "$(dirname "$0")" && pwd)
 from=${1:-$here/../../shared/docs/src/src}

@@ -7,7 +7,7 @@ fn main() {
     if std::env::var_os("CARGO_FEATURE_ENGINE").is_none() {
         return;
     }
-    let library = std::env::var("ENGINE").expect("ENGINE: the path of libengine.a");
+    let library = std::env::var("ENGINE").expect("ENGINE: the path of the archive");
     let path = Path::new(&library);
     let folder = path.parent().expect("a file").display();
     let stem = path.file_stem().and_then(|stem| stem.to_str()).unwrap_or("");
