@@ -3,12 +3,12 @@
 
 usage: tools/documents.py          (from anywhere; Python 3.9 or newer, no packages)
 
-    `steps/Table: tableOk, handle`        definitions or theorems of a file of specs/ or proofs/ of a crate; also `steps/proofs/RunLaws: …`
-    `Settled: propose-settled`, `Settled.antt`   the same where the crate is plain from the text: a file of that name in any crate
+    `steps/Table: table_ok, handle`       definitions or theorems of a file of specs/ or proofs/ of a crate; also `steps/proofs/RunLaws: …`
+    `Settled: propose_settled`, `Settled.antt`   the same where the crate is plain from the text: a file of that name in any crate
     `engine: create_f_third`              must-fail edits of a crate
     `answers::table_ok, is_handle` functions, types or constants of the code
     `crates/…`, `docs/…`, `oracle/…`      files and folders
-    `tableOk`, `propose-settled`, `hb_skip`   a single name: somewhere in the crates, the oracle or its stand-ins
+    `table_ok`, `hb_skip`                 a single name: somewhere in the crates, the oracle or its stand-ins
 """
 import pathlib
 import re
@@ -17,7 +17,9 @@ import sys
 ROOT = pathlib.Path(__file__).resolve().parent.parent
 CRATES = ROOT / "crates"
 DOCUMENTS = ["EVIDENCE", "DECISIONS", "PROOFS", "STATE", "DIFFERENCES", "READING"]
-NAME = r"[A-Za-z_][\w′ʹ₀-₉·-]*"
+NAME = r"[A-Za-z_][\w'₀-₉-]*"
+# what a person writes of a function's proof, in a folder for each
+PROOF_FILES = ("Answers.antt", "Invariants.antt")
 # names of the Rust that stand nowhere in this repository
 ORIGINAL = {"BTreeSet", "CiphertextIsNone"}
 
@@ -34,14 +36,14 @@ for file in ANTT:
     FILES.setdefault(file.stem, []).append(file)
 EDITS = {crate.name: {file.stem for file in crate.glob("must-fail/*.edit")} for crate in CRATES.iterdir()}
 CODE = {file: file.read_text() for folder, kind in ((CRATES, "*.rt"), (ROOT / "oracle", "*.rs"), (ROOT / "oracle", "*.py"), (ROOT / "tools", "*.py"))
-        for file in folder.rglob(kind) if "target" not in file.parts}
+        for file in folder.rglob(kind) if not {"target", "out"} & {*file.parts}}
 SOURCES = {crate.name: "\n".join(text for file, text in CODE.items() if crate in file.parents and "src" in file.parts) for crate in CRATES.iterdir()}
 WORDS = set(ORIGINAL)
 for text in CODE.values():
     WORDS |= set(re.findall(r"[A-Za-z_]\w*", text)) | set(re.findall(r'"([a-z]+(?:-[a-z]+)+)"', text))
 for file, names in ANTT.items():
     WORDS |= names | {file.stem}
-for file in CRATES.rglob("Proof.antt"):
+for file in CRATES.glob("*/proofs/*/**/*.antt"):
     WORDS |= defined(file.read_text()) | {file.parent.name}
 for names in EDITS.values():
     WORDS |= names
@@ -72,7 +74,7 @@ def faults(mark):
     several = re.fullmatch(r"(.*)\{(.*)\}", mark)
     if several and place is None and several[1].endswith(("specs/", "proofs/")):
         return [fault for name in split(several[2]) for fault in faults(several[1] + name)]
-    if re.fullmatch(r"[A-Z]\w*\.antt", mark) and mark != "Proof.antt" and mark[:-5] not in FILES:
+    if re.fullmatch(r"[A-Z]\w*\.antt", mark) and mark not in PROOF_FILES and mark[:-5] not in FILES:
         return [f"no file {mark}"]
     listed = re.fullmatch(rf"({NAME}): (.+)", mark)
     if listed and re.match("[A-Z]", mark) and listed[1] not in FILES:

@@ -20,7 +20,7 @@ OPENING, CLOSING = "```text\n", "```\n"
 
 
 def length(n, ahead):
-    """`stateLength` of crates/state/specs/State.antt."""
+    """`state_length` of crates/state/specs/State.antt."""
     return 16 + (ahead + 1) * (16 + n * (8 + n))
 
 
@@ -28,7 +28,7 @@ ROWS = [[length(n, ahead) for ahead in AHEAD] for n in NODES]
 
 
 def code():
-    rows = "".join(f"    // N {n}\n" + "".join(f"    {figure},\n" for figure in row) for n, row in zip(NODES, ROWS))
+    rows = "".join(f"    // N {n}\n    " + ", ".join(map(str, row)) + ",\n" for n, row in zip(NODES, ROWS))
     return ("// The sheet of state lengths (docs/STATE-LENGTHS.md): a row for each N, with look-ahead 0 to 15. Made by tools/lengths.py.\n"
             f"pub const STATE_LENGTHS: [u16; 256] = [\n{rows}];\n")
 
@@ -36,7 +36,7 @@ def code():
 def proof():
     rows = "".join("    " + " ∷ ".join(map(str, row)) + " ∷\n" for row in ROWS)
     return ("-- The table of src/lengths.rt as a list, since the checker does not take it from the code. A row for each N. Made by tools/lengths.py.\n"
-            f"use Prim.Native.Nat.{{ℕ}}\nuse mathlib.Core.List.{{List, [], _∷_}}\n\nabbrev pub lengths : List ℕ\nlengths =\n{rows}    []\n")
+            f"use Prim.Native.Nat.{{ℕ}}\nuse mathlib.Core.List.{{List, [], ◌∷◌}}\n\nabbrev pub lengths : List ℕ\nlengths =\n{rows}    []\n")
 
 
 def printed():
