@@ -4,7 +4,7 @@
 usage: oracle/judge.py [--keep FOLDER] CLASS:SEED:RUNS:CALLS ...     (oracle/build.sh first; rt must be on the PATH)
 
 Each run of the original becomes an antt term: its calls with their answers, and what the original made of them (reply, step words, the
-four queries, all state words). The checker computes `createState`, `proposeCall`, `messageCall`, `skipState` and the queries of
+four queries, all state words). The checker computes `create_state`, `propose_call`, `message_call`, `skip_state` and the queries of
 crates/engine/specs on it and compares every word; scratch and the untouched part of the step table are compared too, by document 01.
 The work is done in a temporary repository of the crates' definitions and types; their functions are left out, so nothing is proved here.
 """
@@ -28,14 +28,10 @@ LAYERS = {"steps": "", "network": "steps", "decryption": "network steps", "propo
           "calls": "decryption epoch network state steps subset work", "engine": "calls decryption epoch network state steps subset work"}
 
 JUDGE = """-- What a run of the original was given and what it made of it, and whether the definitions make the same of it.
-use Prim.Native.Nat.{ℕ, zero, suc, _+_, _*_}
-use mathlib.Core.List.{List, [], _∷_, _++_}
-use mathlib.Core.Bool.{Bool, true, false, cond, _&&_}
-use lib.ListN.{length, drop, set, replicate}
-use lib.Dec.{eqb, leb}
-use Rattle·state.specs.State.{stateLength}
-use Rattle·engine.specs.Create.{Numbers, createReply, createState}
-use Rattle·calls.specs.Calls.{After, proposeCall, messageCall, skipReply, skipState, currentEpochResult, hasInputResult, receivedProposalsResult, faultCountResult}
+use Rattle.std.specs.Prelude.{ℕ, ◌+◌, ◌*◌, List, [], ◌∷◌, ◌++◌, Bool, true, false, cond, ◌&&◌, length, drop, set, replicate, eqb}
+use Rattle.state.specs.State.{state_length}
+use Rattle.engine.specs.Create.{Numbers, create_reply, create_state}
+use Rattle.calls.specs.Calls.{After, propose_call, message_call, skip_reply, skip_state, current_epoch_result, has_input_result, received_proposals_result, fault_count_result}
 
 pub data Op : Type 0 where
   create : Numbers → Op
@@ -72,37 +68,37 @@ scratch w = replicate (length w + 2) 5
 unfoldable pub after : List ℕ → Op → After
 after w (create c) =
     record {
-      reply = createReply c (replicate (stateLength (c .nodes) (c .ahead)) 9);
-      state = cond (eqb (createReply c (replicate (stateLength (c .nodes) (c .ahead)) 9)) 0) (createState c (replicate (stateLength (c .nodes) (c .ahead)) 9)) w;
+      reply = create_reply c (replicate (state_length c.nodes c.ahead) 9);
+      state = cond (eqb (create_reply c (replicate (state_length c.nodes c.ahead) 9)) 0) (create_state c (replicate (state_length c.nodes c.ahead) 9)) w;
       scratch = [];
       step = []
     }
-after w (propose records answers) = proposeCall w (scratch w) answers (table records)
-after w (message sender epoch content proposer item records answers) = messageCall w (scratch w) answers (table records) sender epoch content proposer item
-after w (skip target) = record { reply = skipReply target w; state = skipState target w; scratch = []; step = [] }
+after w (propose records answers) = propose_call w (scratch w) answers (table records)
+after w (message sender epoch content proposer item records answers) = message_call w (scratch w) answers (table records) sender epoch content proposer item
+after w (skip target) = record { reply = skip_reply target w; state = skip_state target w; scratch = []; step = [] }
 
 -- the lent words that the row does not list: the step table past the step, and the scratch
-unfoldable pub wholeStep : Op → List ℕ → List ℕ
-wholeStep (create c) step = []
-wholeStep (propose records answers) step = step ++ drop (length step) (table records)
-wholeStep (message sender epoch content proposer item records answers) step = step ++ drop (length step) (table records)
-wholeStep (skip target) step = []
+unfoldable pub whole_step : Op → List ℕ → List ℕ
+whole_step (create c) step = []
+whole_step (propose records answers) step = step ++ drop (length step) (table records)
+whole_step (message sender epoch content proposer item records answers) step = step ++ drop (length step) (table records)
+whole_step (skip target) step = []
 
-unfoldable pub wholeScratch : List ℕ → Op → List ℕ
-wholeScratch w (create c) = []
-wholeScratch w (propose records answers) = replicate (length w) 0 ++ (5 ∷ 5 ∷ [])
-wholeScratch w (message sender epoch content proposer item records answers) = replicate (length w) 0 ++ (5 ∷ 5 ∷ [])
-wholeScratch w (skip target) = []
+unfoldable pub whole_scratch : List ℕ → Op → List ℕ
+whole_scratch w (create c) = []
+whole_scratch w (propose records answers) = replicate (length w) 0 ++ (5 ∷ 5 ∷ [])
+whole_scratch w (message sender epoch content proposer item records answers) = replicate (length w) 0 ++ (5 ∷ 5 ∷ [])
+whole_scratch w (skip target) = []
 
 unfoldable pub queried : List ℕ → List ℕ
-queried w = currentEpochResult w 7 ∷ hasInputResult w 7 ∷ receivedProposalsResult w 7 ∷ faultCountResult w 7 ∷ []
+queried w = current_epoch_result w 7 ∷ has_input_result w 7 ∷ received_proposals_result w 7 ∷ fault_count_result w 7 ∷ []
 
 unfoldable pub agrees : List ℕ → Row → After → Bool
 agrees w r a =
-    eqb (a .reply) (r .reply)
-    && same (a .step) (wholeStep (r .op) (r .step))
-    && same (a .scratch) (wholeScratch w (r .op))
-    && cond (eqb (r .length) 0) true (same (queried (a .state)) (r .queries) && eqb (length (a .state)) (r .length) && same (others 0 (a .state)) (r .words))
+    eqb a.reply r.reply
+    && same a.step (whole_step r.op r.step)
+    && same a.scratch (whole_scratch w r.op)
+    && cond (eqb r.length 0) true (same (queried a.state) r.queries && eqb (length a.state) r.length && same (others 0 a.state) r.words)
 
 -- a state from its length and its words other than 0
 unfoldable pub filled : ℕ → List ℕ → List ℕ
@@ -111,9 +107,9 @@ filled n (i ∷ []) = replicate n 0
 filled n (i ∷ (x ∷ rest)) = set (filled n rest) i x
 
 -- 0 where all rows agree, else the number of the first that does not
-unfoldable pub firstBad : ℕ → List ℕ → List Row → ℕ
-firstBad i w [] = 0
-firstBad i w (r ∷ rs) = elim (agrees w r (after w (r .op))) [ true ↦ firstBad (i + 1) (after w (r .op) .state) rs | false ↦ i ]
+unfoldable pub first_bad : ℕ → List ℕ → List Row → ℕ
+first_bad i w [] = 0
+first_bad i w (r ∷ rs) = elim (agrees w r (after w r.op)) [ true ↦ first_bad (i + 1) (after w r.op).state rs | false ↦ i ]
 """
 
 
@@ -128,13 +124,12 @@ def unfoldable(folder):
     return names
 
 
-def opened(names, own):
+def opened(names):
     """A declaration that opens all of them: `unfolding opened` under a statement lets the whole of it compute."""
     uses, words = [], []
     for (crate, module), found in names.items():
-        where = f"Rattle·{own}·specs.specs" if crate == own else f"Rattle·{crate}.specs"
         renamed = [f"{name} as {crate}{module}{name}" for name in found]
-        uses.append(f"use {where}.{module}.{{{', '.join(renamed)}}}")
+        uses.append(f"use Rattle.{crate}.specs.{module}.{{{', '.join(renamed)}}}")
         words += [f"{crate}{module}{name}" for name in found]
     return "\n".join(uses) + "\n\nunfoldable pub opened : Unit {0}\nunfolding " + " ".join(words) + "\nopened = tt\n"
 
@@ -154,7 +149,7 @@ def make_repository(folder):
     (judged / "src" / "lib.rt").write_text("// Nothing: the definitions are in specs/.\n")
     (judged / "specs").mkdir()
     (judged / "specs" / "Judge.antt").write_text(JUDGE)
-    (judged / "specs" / "Opened.antt").write_text(opened(unfoldable(folder / "crates"), "judged"))
+    (judged / "specs" / "Opened.antt").write_text(opened(unfoldable(folder / "crates")))
     lines = [f"{layer}: {below}\n" for layer, below in LAYERS.items()] + ["judged: calls decryption engine epoch epochwords network proposal state steps subset work\n"]
     (folder / "crates.txt").write_text("".join(lines))
 
@@ -221,16 +216,16 @@ def parts(run):
 
 
 def run_module(runs):
-    text = ["use Prim.Native.Nat.{ℕ}", "use mathlib.Core.Path.{_≡_, refl}", "use mathlib.Core.List.{List, [], _∷_}",
-            "use Rattle·judged·specs.specs.Judge.{create, propose, message, skip, Row, filled, firstBad}",
-            "use Rattle·judged·specs.specs.Opened.{opened}", ""]
+    text = ["use Rattle.std.specs.Prelude.{◌≡◌, refl, List, [], ◌∷◌}",
+            "use Rattle.judged.specs.Judge.{create, propose, message, skip, Row, filled, first_bad}",
+            "use Rattle.judged.specs.Opened.{opened}", ""]
     for number, run in enumerate(runs):
         for place, (start, part) in enumerate(parts(run)):
             name = f"{number}-{place}"
             rows = "\n    ∷ ".join(row_term(row) for row in part)
             first = state_term(start) if start else "[]"
             text.append(f"abbrev run{name} : List Row\nrun{name} =\n    {rows}\n    ∷ []\n")
-            text.append(f"agrees{name} : firstBad 1 {first} run{name} ≡ 0\nunfolding opened\nagrees{name} = refl\n")
+            text.append(f"agrees{name} : first_bad 1 {first} run{name} ≡ 0\nunfolding opened\nagrees{name} = refl\n")
     return "\n".join(text)
 
 
@@ -273,7 +268,7 @@ def main():
             part = runs[first:first + args.together]
             (judged / "Runs.antt").write_text(run_module(part))
             (judged / "Lib.antt").write_text("pub mod Judge\npub mod Opened\npub mod Runs\n")
-            ran = subprocess.run(["rt", "dev", "judged"], cwd=folder, stdout=subprocess.PIPE, stderr=subprocess.STDOUT, text=True)
+            ran = subprocess.run(["rt", "check"], cwd=folder / "crates" / "judged", stdout=subprocess.PIPE, stderr=subprocess.STDOUT, text=True)
             if ran.returncode == 0 and "logic=proved" in ran.stdout:
                 print(f"{what}: runs {first} to {first + len(part) - 1}: every word as the original has it", flush=True)
                 count(counts, part)
