@@ -24,9 +24,9 @@ use epoch::epoch_state::{Input, Outcome, SubsetInput, handle_from};
 use epochwords::SubsetHandlingStrategy;
 use epochwords::batch::{Handed, is_ready, output_batch_from};
 use epochwords::words::{STATUS_AT, STATUS_VACANT};
-use libc::STDIN_FILENO;
 use lines::{line_end, line_ends, number, numbers, say};
 use network::network_info::NetworkInfo;
+use std::io::{self, BufWriter, Read, Write};
 use steps::numbers::{
     AGREEMENT_CONTENT, ANSWER_NOT_NEXT, ANSWERS_UNREAD, BROADCAST_CONTENT, CREATE_SUBSET,
     INSTANCES_BUILT, NOT_A_STATE, STEP_TABLE_TOO_SHORT, SUCCESS,
@@ -301,35 +301,36 @@ fn run_in(
 }
 
 // The reply and the first m words of the step table.
-fn show(reply: u64, table: &[u64; 256], m: usize)
+fn show<W: Write>(out: &mut W, reply: u64, table: &[u64; 256], m: usize) -> io::Result<()>
     requires { m ≤ 256 }
 {
-    say(b"r");
-    number(reply);
+    say(out, b"r")?;
+    number(out, reply)?;
     let mut i: usize = 0;
     while i < m {
-        number(table[i]);
+        number(out, table[i])?;
         i += 1;
     }
-    line_ends();
+    line_ends(out)
 }
 
 // The word at this index, if it is not 0.
-fn show_word(i: usize, word: u64) {
+fn show_word<W: Write>(out: &mut W, i: usize, word: u64) -> io::Result<()> {
     if word != 0 {
-        number(i as u64);
-        number(word);
+        number(out, i as u64)?;
+        number(out, word)?;
     }
+    Ok(())
 }
 
-fn show_words(words: &[u64; 128]) {
-    say(b"w");
+fn show_words<W: Write>(out: &mut W, words: &[u64; 128]) -> io::Result<()> {
+    say(out, b"w")?;
     let mut i: usize = 0;
     while i < 128 {
-        show_word(i, words[i]);
+        show_word(out, i, words[i])?;
         i += 1;
     }
-    line_ends();
+    line_ends(out)
 }
 
 // How many words a counted step takes: at most 256, or else 0.
@@ -373,26 +374,39 @@ fn begin(counted: Step, table: &mut [u64], epoch: u64) -> Step
 }
 
 // The second run, which writes what the first has counted.
-fn write(before: [u64; 128], how: Setting, call: Call, answers: &[u64], counted: Step)
+fn write<W: Write>(
+    out: &mut W,
+    before: [u64; 128],
+    how: Setting,
+    call: Call,
+    answers: &[u64],
+    counted: Step,
+) -> io::Result<()>
     requires { Network how.net × (how.net.num_nodes ≤ 7) × (call.sender < how.net.num_nodes) × (call.proposer < how.net.num_nodes) }
 {
     let mut table = [0u64; 256];
     let m = words_of(counted);
     if m == 0 {
-        show(STEP_TABLE_TOO_SHORT, &table, 0);
-        return;
+        return show(out, STEP_TABLE_TOO_SHORT, &table, 0);
     }
     let step = begin(counted, &mut table, call.epoch);
     let mut epoch = before;
     let ran = run_in(&mut epoch, how, call, answers, step, &mut table);
-    show(ran.reply, &table, m);
+    show(out, ran.reply, &table, m)?;
     if !ran.batch {
-        show_words(&epoch);
+        show_words(out, &epoch)?;
     }
+    Ok(())
 }
 
 // Both runs of a call. One that fails has no second, and its step is an empty one.
-fn call_twice(before: [u64; 128], how: Setting, call: Call, answers: &[u64])
+fn call_twice<W: Write>(
+    out: &mut W,
+    before: [u64; 128],
+    how: Setting,
+    call: Call,
+    answers: &[u64],
+) -> io::Result<()>
     requires { Network how.net × (how.net.num_nodes ≤ 7) × (call.sender < how.net.num_nodes) × (call.proposer < how.net.num_nodes) }
 {
     let mut epoch = before;
@@ -408,17 +422,16 @@ fn call_twice(before: [u64; 128], how: Setting, call: Call, answers: &[u64])
     let reply = ran.reply;
     if reply == SUCCESS {
         let counted = ran.step;
-        write(before, how, call, answers, counted);
-        return;
+        return write(out, before, how, call, answers, counted);
     }
     let mut table = [0u64; 256];
     Step::counting().header(&mut table, call.epoch);
-    show(reply, &table, 4);
-    show_words(&epoch);
+    show(out, reply, &table, 4)?;
+    show_words(out, &epoch)
 }
 
 // A call with these answers, unless a number of it or of its network is out of range.
-fn make(before: Before, call: Call, answers: &[u64]) {
+fn make<W: Write>(out: &mut W, before: Before, call: Call, answers: &[u64]) -> io::Result<()> {
     let network = before.network;
     let words = before.words;
     let how = setting_of(network);
@@ -426,24 +439,24 @@ fn make(before: Before, call: Call, answers: &[u64]) {
     let n = net.num_nodes;
     let f = net.num_faulty;
     if 7 < n {
-        return;
+        return Ok(());
     }
     if n <= f {
-        return;
+        return Ok(());
     }
     if n <= 3 * f {
-        return;
+        return Ok(());
     }
     if n < net.our_id {
-        return;
+        return Ok(());
     }
     if n <= call.sender {
-        return;
+        return Ok(());
     }
     if n <= call.proposer {
-        return;
+        return Ok(());
     }
-    call_twice(words, how, call, answers);
+    call_twice(out, words, how, call, answers)
 }
 
 // A network line's numbers.
@@ -468,7 +481,13 @@ fn sparse(given: &[u64; 256], m: usize) -> [u64; 128]
 }
 
 // The call of a line with these m numbers.
-fn act(what: u8, given: &[u64; 256], m: usize, before: Before)
+fn act<W: Write>(
+    out: &mut W,
+    what: u8,
+    given: &[u64; 256],
+    m: usize,
+    before: Before,
+) -> io::Result<()>
     requires { m ≤ 256 }
 {
     let all = &given[..];
@@ -484,7 +503,7 @@ fn act(what: u8, given: &[u64; 256], m: usize, before: Before)
                 proposer: 0,
                 item: 0,
             };
-            make(before, call, &all[2..m]);
+            return make(out, before, call, &all[2..m]);
         }
     }
     if what == b'm' {
@@ -497,15 +516,16 @@ fn act(what: u8, given: &[u64; 256], m: usize, before: Before)
                 proposer: given[4] as usize,
                 item: given[5],
             };
-            make(before, call, &all[6..m]);
+            return make(out, before, call, &all[6..m]);
         }
     }
+    Ok(())
 }
 
 // One line of the input: what the next call finds.
-fn line(text: &[u8], before: Before) -> Before {
+fn line<W: Write>(out: &mut W, text: &[u8], before: Before) -> io::Result<Before> {
     if text.len() == 0 {
-        return before;
+        return Ok(before);
     }
     let what = text[0];
     let mut given = [0u64; 256];
@@ -513,19 +533,19 @@ fn line(text: &[u8], before: Before) -> Before {
     if what == b'n' {
         let network = network_of(&given);
         let words = before.words;
-        return Before { network, words };
+        return Ok(Before { network, words });
     }
     if what == b'w' {
         let network = before.network;
         let words = sparse(&given, m);
-        return Before { network, words };
+        return Ok(Before { network, words });
     }
-    act(what, &given, m, before);
-    before
+    act(out, what, &given, m, before)?;
+    Ok(before)
 }
 
 // The lines of the input, in order.
-fn each_line(text: &[u8]) {
+fn each_line<W: Write>(out: &mut W, text: &[u8]) -> io::Result<()> {
     let mut before = Before {
         network: [0; 6],
         words: [0; 128],
@@ -533,13 +553,16 @@ fn each_line(text: &[u8]) {
     let mut at: usize = 0;
     while at < text.len() {
         let end = line_end(text, at);
-        before = line(&text[at..end], before);
+        before = line(out, &text[at..end], before)?;
         at = end;
     }
+    Ok(())
 }
 
-fn main() {
-    let mut text = [0u8; 131_072];
-    let n = io::read_full(STDIN_FILENO, &mut text);
-    each_line(&text[..n]);
+fn main(rt: HostRuntime) -> io::Result<()> {
+    let mut text = Vec::new(rt.alloc());
+    rt.reader().take(131_072).read_to_end(&mut text)?;
+    let mut out = BufWriter::new(rt.alloc(), io::writer(&rt))?;
+    each_line(&mut out, &text)?;
+    out.flush()
 }

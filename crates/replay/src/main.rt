@@ -13,10 +13,10 @@
 // many as the state has words, then words that it did not touch: eight more are lent), q EPOCH INPUT RECEIVED FAULTS DIGEST SCRATCH.
 #![tactic(auto)]
 
-ghost use Rattle.std.specs.Prelude.{◌+◌, ◌≤◌, ◌<◌, length};
+ghost use Rattle.std.specs.Prelude.{◌+◌, ◌≤◌, ◌<◌, length, IfOk};
 
-use libc::STDIN_FILENO;
 use lines::{number, numbers_in, say};
+use std::io::{self, BufReader, BufWriter, Read, Write};
 use steps::numbers::SUCCESS;
 
 // The words that a call is lent, but for the state's and the answers'.
@@ -120,55 +120,61 @@ fn digest(words: &[u64]) -> u64 {
     h
 }
 
-fn show_reply(reply: u64) {
-    say(b"r");
-    number(reply);
+fn show_reply<W: Write>(out: &mut W, reply: u64) -> io::Result<()> {
+    say(out, b"r")?;
+    number(out, reply)
 }
 
 // The words of a step table up to this one.
-fn show_step(step: &[u64], end: usize)
+fn show_step<W: Write>(out: &mut W, step: &[u64], end: usize) -> io::Result<()>
     requires { end ≤ length step.now }
 {
     let mut i: usize = 0;
     while i < end {
-        number(step[i]);
+        number(out, step[i])?;
         i += 1;
     }
+    Ok(())
 }
 
 // What the queries give. One that is turned down gives what it was lent.
-fn show_queries(state: &[u64]) {
+fn show_queries<W: Write>(out: &mut W, state: &[u64]) -> io::Result<()> {
     let mut epoch = FILL;
     let _ = engine::hb_current_epoch(state, &mut epoch);
-    number(epoch);
+    number(out, epoch)?;
     let mut input = FILL;
     let _ = engine::hb_has_input(state, &mut input);
-    number(input);
+    number(out, input)?;
     let mut received = FILL;
     let _ = engine::hb_received_proposals(state, &mut received);
-    number(received);
+    number(out, received)?;
     let mut faults = FILL;
     let _ = engine::hb_fault_count(state, &mut faults);
-    number(faults);
+    number(out, faults)
 }
 
 // Ends the line of the reply, and shows what a call leaves besides its step. Before the first create there is no state.
-fn show_state(state: &[u64], right: u64) {
-    say(b"\n");
+fn show_state<W: Write>(out: &mut W, state: &[u64], right: u64) -> io::Result<()> {
+    say(out, b"\n")?;
     if state.len() == 0 {
-        return;
+        return Ok(());
     }
-    say(b"q");
-    show_queries(state);
-    number(digest(state));
-    number(right);
-    say(b"\n");
+    say(out, b"q")?;
+    show_queries(out, state)?;
+    number(out, digest(state))?;
+    number(out, right)?;
+    say(out, b"\n")
 }
 
 // Create: how many words the state has afterwards.
-fn create(given: &[u64; 4112], state: &mut [u64], size: usize) -> usize
+fn create<W: Write>(
+    out: &mut W,
+    given: &[u64; 4112],
+    state: &mut [u64],
+    size: usize,
+) -> io::Result<usize>
     requires { (size ≤ 6416) × (6416 ≤ length state.old) }
-    ensures { result ≤ 6416 }
+    ensures { IfOk result (λ new. new ≤ 6416) }
 {
     let new = state_length(given[0], given[2]);
     let reply = engine::hb_create(
@@ -184,11 +190,11 @@ fn create(given: &[u64; 4112], state: &mut [u64], size: usize) -> usize
         given[9],
         &mut state[..new],
     );
-    show_reply(reply);
+    show_reply(out, reply)?;
     if reply == SUCCESS {
-        return new;
+        return Ok(new);
     }
-    size
+    Ok(size)
 }
 
 fn skip(given: &[u64], state: &mut [u64]) -> u64 {
@@ -243,72 +249,86 @@ fn call(what: u8, given: &[u64], state: &mut [u64], scratch: &mut [u64], step: &
 }
 
 // A line that is no create. What it is lent, it is lent whole.
-fn act(what: u8, given: &[u64], state: &mut [u64], scratch: &mut [u64], step: &mut [u64])
+fn act<W: Write>(
+    out: &mut W,
+    what: u8,
+    given: &[u64],
+    state: &mut [u64],
+    scratch: &mut [u64],
+    step: &mut [u64],
+) -> io::Result<()>
     requires { 6212 ≤ length step.old }
 {
     if what == b's' {
-        show_reply(skip(given, state));
-        show_state(state, 0);
-        return;
+        show_reply(out, skip(given, state))?;
+        return show_state(out, state, 0);
     }
     if (what != b'p') & (what != b'm') {
-        return;
+        return Ok(());
     }
-    show_reply(call(what, given, state, scratch, step));
+    show_reply(out, call(what, given, state, scratch, step))?;
     let end = written(step);
-    show_step(step, end);
+    show_step(out, step, end)?;
     let right = scratch_right(scratch, state.len());
-    show_state(state, right);
+    show_state(out, state, right)
 }
 
 // One line of the input. Answers how many words the state has afterwards.
-fn line(text: &[u8], state: &mut [u64], size: usize, scratch: &mut [u64], step: &mut [u64]) -> usize
+fn line<W: Write>(
+    out: &mut W,
+    text: &[u8],
+    state: &mut [u64],
+    size: usize,
+    scratch: &mut [u64],
+    step: &mut [u64],
+) -> io::Result<usize>
     requires { (size ≤ 6416) × (6416 ≤ length state.old) × (6424 ≤ length scratch.old) × (6212 ≤ length step.old) }
-    ensures { result ≤ 6416 }
+    ensures { IfOk result (λ new. new ≤ 6416) }
 {
     if text.len() == 0 {
-        return size;
+        return Ok(size);
     }
     let what = text[0];
     let mut given = [0u64; 4112];
     let m = numbers_in(text, &mut given);
     if what == b'c' {
-        let new = create(&given, state, size);
-        show_state(&state[..new], 0);
-        return new;
+        let new = create(out, &given, state, size)?;
+        show_state(out, &state[..new], 0)?;
+        return Ok(new);
     }
     let lent = size + 8;
     act(
+        out,
         what,
         &given[..m],
         &mut state[..size],
         &mut scratch[..lent],
         step,
-    );
-    size
+    )?;
+    Ok(size)
 }
 
 // Reads a line with its newline; answers how many bytes it has, 0 at the end of the input.
-fn read_line(text: &mut [u8]) -> usize
-    ensures { result ≤ length text.old }
+fn read_line<R: Read>(input: &mut R, text: &mut [u8]) -> io::Result<usize>
+    ensures { IfOk result (λ n. n ≤ length text.old) }
 {
-    let mut byte = [0u8; 1];
     let mut n: usize = 0;
     while n < text.len() {
-        if io::read_full(STDIN_FILENO, &mut byte) == 0 {
-            return n;
-        }
-        text[n] = byte[0];
+        let Some(byte) = input.by_ref().bytes().next() else {
+            return Ok(n);
+        };
+        let byte = byte?;
+        text[n] = byte;
         n += 1;
-        if byte[0] == b'\n' {
-            return n;
+        if byte == b'\n' {
+            return Ok(n);
         }
     }
-    n
+    Ok(n)
 }
 
 // The lines of the input, in order.
-fn main() {
+fn run<R: Read, W: Write>(input: &mut R, out: &mut W) -> io::Result<()> {
     let mut text = [0u8; 65536];
     let mut state = [0u64; 6416];
     let mut scratch = [0u64; 6424];
@@ -316,11 +336,19 @@ fn main() {
     let mut size: usize = 0;
     let mut left: usize = 65536;
     while 0 < left {
-        let n = read_line(&mut text);
+        let n = read_line(input, &mut text)?;
         if n == 0 {
-            return;
+            return Ok(());
         }
-        size = line(&text[..n], &mut state, size, &mut scratch, &mut step);
+        size = line(out, &text[..n], &mut state, size, &mut scratch, &mut step)?;
         left -= 1;
     }
+    Ok(())
+}
+
+fn main(rt: HostRuntime) -> io::Result<()> {
+    let mut input = BufReader::new(rt.alloc(), rt.reader())?;
+    let mut out = BufWriter::new(rt.alloc(), io::writer(&rt))?;
+    run(&mut input, &mut out)?;
+    out.flush()
 }

@@ -3,26 +3,29 @@
 
 ghost use Rattle.std.specs.Prelude.{◌≤◌};
 
-use libc::STDOUT_FILENO;
 use lines::{line_ends, number};
 use state::range::state_length;
+use std::io::{self, BufWriter, Write};
 
-fn row(n: usize)
+fn row<W: Write>(out: &mut W, n: usize) -> io::Result<()>
     requires { (1 ≤ n) × (n ≤ 16) }
 {
-    io::print_decimal(STDOUT_FILENO, state_length(n, 0) as u64);
+    let first = state_length(n, 0);
+    write!(out, "{first}")?;
     let mut ahead: usize = 1;
     while ahead < 16 {
-        number(state_length(n, ahead) as u64);
+        number(out, state_length(n, ahead) as u64)?;
         ahead += 1;
     }
-    line_ends();
+    line_ends(out)
 }
 
-fn main() {
+fn main(rt: HostRuntime) -> io::Result<()> {
+    let mut out = BufWriter::new(rt.alloc(), io::writer(&rt))?;
     let mut n: usize = 1;
     while n <= 16 {
-        row(n);
+        row(&mut out, n)?;
         n += 1;
     }
+    out.flush()
 }

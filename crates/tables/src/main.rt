@@ -15,25 +15,25 @@ ghost use Rattle.std.specs.Prelude.{◌≤◌, ◌<◌};
 ghost use Rattle.network.specs.Network.{Network};
 
 use decryption::{Outcome, ThresholdDecrypt};
-use libc::STDIN_FILENO;
 use lines::{line_end, line_ends, number, numbers, say};
 use network::network_info::NetworkInfo;
+use std::io::{self, BufWriter, Read, Write};
 use steps::reader::{Answer, Content, Output};
 use steps::step::Step;
 
-fn line_begins() {
-    say(b"  step");
+fn line_begins<W: Write>(out: &mut W) -> io::Result<()> {
+    say(out, b"  step")
 }
 
 // The words of a step table, a line.
-fn show(words: &[u64; 20]) {
-    line_begins();
+fn show<W: Write>(out: &mut W, words: &[u64; 20]) -> io::Result<()> {
+    line_begins(out)?;
     let mut i: usize = 0;
     while i < 20 {
-        number(words[i]);
+        number(out, words[i])?;
         i += 1;
     }
-    line_ends();
+    line_ends(out)
 }
 
 // What an answer about a node came to: refused, a = 0, or its last output if it had one.
@@ -50,16 +50,16 @@ struct Heard {
     step: Step,
 }
 
-fn show_told(told: Told) {
+fn show_told<W: Write>(out: &mut W, told: Told) -> io::Result<()> {
     match told {
-        Told::Refused => say(b"  reply 8\n"),
-        Told::No => say(b"  a 0\n"),
+        Told::Refused => say(out, b"  reply 8\n"),
+        Told::No => say(out, b"  a 0\n"),
         Told::Output(output) => match output {
-            Output::Missing => say(b"  no output\n"),
+            Output::Missing => say(out, b"  no output\n"),
             Output::Value(b) => {
-                say(b"  output");
-                number(b);
-                say(b"\n");
+                say(out, b"  output")?;
+                number(out, b)?;
+                say(out, b"\n")
             }
         },
     }
@@ -128,15 +128,14 @@ fn begin(counted: Step, words: &mut [u64], epoch: u64) -> Step {
 }
 
 // An answer's parts as a step of epoch 3: first counted, then written. A refused one writes nothing, a failed one a header.
-fn parts(answers: &[u64], kind: u64, who: u64) {
+fn parts<W: Write>(out: &mut W, answers: &[u64], kind: u64, who: u64) -> io::Result<()> {
     if !answers::table_ok(4, answers) {
-        say(b"  reply 5\n");
-        return;
+        return say(out, b"  reply 5\n");
     }
     let mut none = [0u64; 1];
     let counted = hear(answers, kind, who, Step::counting(), &mut none[..0]);
     let told = counted.told;
-    show_told(told);
+    show_told(out, told)?;
     let mut words = [9u64; 20];
     match told {
         Told::Refused => {}
@@ -147,19 +146,19 @@ fn parts(answers: &[u64], kind: u64, who: u64) {
             hear(answers, kind, who, step, &mut words);
         }
     }
-    show(&words);
+    show(out, &words)
 }
 
-fn show_outcome(outcome: Outcome) {
+fn show_outcome<W: Write>(out: &mut W, outcome: Outcome) -> io::Result<()> {
     match outcome {
-        Outcome::Nothing => say(b"  nothing\n"),
+        Outcome::Nothing => say(out, b"  nothing\n"),
         Outcome::Plaintext(h) => {
-            say(b"  plaintext");
-            number(h);
-            say(b"\n");
+            say(out, b"  plaintext")?;
+            number(out, h)?;
+            say(out, b"\n")
         }
-        Outcome::Refused => say(b"  reply 8\n"),
-        Outcome::Decryption => say(b"  failure 24\n"),
+        Outcome::Refused => say(out, b"  reply 8\n"),
+        Outcome::Decryption => say(out, b"  failure 24\n"),
     }
 }
 
@@ -192,7 +191,13 @@ fn write_share(
 }
 
 // A share of a sender for proposer 0, at an observer of four nodes: the instance afterwards.
-fn share(td: ThresholdDecrypt, sender: usize, handle: u64, answers: &[u64]) -> ThresholdDecrypt
+fn share<W: Write>(
+    out: &mut W,
+    td: ThresholdDecrypt,
+    sender: usize,
+    handle: u64,
+    answers: &[u64],
+) -> io::Result<ThresholdDecrypt>
     requires { sender < 4 }
 {
     let net = network();
@@ -209,7 +214,7 @@ fn share(td: ThresholdDecrypt, sender: usize, handle: u64, answers: &[u64]) -> T
         &mut none[..0],
     );
     let outcome = handled.outcome;
-    show_outcome(outcome);
+    show_outcome(out, outcome)?;
     let mut words = [9u64; 20];
     match outcome {
         Outcome::Refused => {}
@@ -219,8 +224,8 @@ fn share(td: ThresholdDecrypt, sender: usize, handle: u64, answers: &[u64]) -> T
             write_share(td, sender, handle, answers, count, &mut words);
         }
     }
-    show(&words);
-    handled.td
+    show(out, &words)?;
+    Ok(handled.td)
 }
 
 // An instance of proposer 0 with a ciphertext, words[0], and shares by sender, the words after it. It has sent its own share.
@@ -240,57 +245,66 @@ fn instance(words: &[u64; 256]) -> ThresholdDecrypt {
 }
 
 // What a line with these numbers asks for: the instance after it.
-fn act(what: u8, words: &[u64; 256], n: usize, td: ThresholdDecrypt) -> ThresholdDecrypt
+fn act<W: Write>(
+    out: &mut W,
+    what: u8,
+    words: &[u64; 256],
+    n: usize,
+    td: ThresholdDecrypt,
+) -> io::Result<ThresholdDecrypt>
     requires { n ≤ 256 }
 {
     if n < 2 {
-        return td;
+        return Ok(td);
     }
     let one = words[0];
     let two = words[1];
     let all = &words[..];
     if what == b'p' {
-        parts(&all[2..n], one, two);
+        parts(out, &all[2..n], one, two)?;
     }
     if what == b's' {
         if one < 4 {
-            return share(td, one as usize, two, &all[2..n]);
+            return share(out, td, one as usize, two, &all[2..n]);
         }
     }
-    td
+    Ok(td)
 }
 
 // One line of the input: the instance after it.
-fn line(text: &[u8], td: ThresholdDecrypt) -> ThresholdDecrypt {
+fn line<W: Write>(out: &mut W, text: &[u8], td: ThresholdDecrypt) -> io::Result<ThresholdDecrypt> {
     if text.len() < 2 {
-        return td;
+        return Ok(td);
     }
     let what = text[0];
     if what == b'=' {
-        say(&text[2..]);
-        return td;
+        say(out, &text[2..])?;
+        return Ok(td);
     }
     let mut words = [0u64; 256];
     let n = numbers(text, &mut words);
     if what == b'i' {
-        return instance(&words);
+        return Ok(instance(&words));
     }
-    act(what, &words, n, td)
+    act(out, what, &words, n, td)
 }
 
 // The lines of the input, in order.
-fn lines(text: &[u8]) {
+fn lines<W: Write>(out: &mut W, text: &[u8]) -> io::Result<()> {
     let mut td = ThresholdDecrypt::new();
     let mut at: usize = 0;
     while at < text.len() {
         let end = line_end(text, at);
-        td = line(&text[at..end], td);
+        td = line(out, &text[at..end], td)?;
         at = end;
     }
+    Ok(())
 }
 
-fn main() {
-    let mut text = io::large_buffer();
-    let n = io::read_full(STDIN_FILENO, &mut text);
-    lines(&text[..n]);
+fn main(rt: HostRuntime) -> io::Result<()> {
+    let mut text = Vec::new(rt.alloc());
+    rt.reader().take(65_536).read_to_end(&mut text)?;
+    let mut out = BufWriter::new(rt.alloc(), io::writer(&rt))?;
+    lines(&mut out, &text)?;
+    out.flush()
 }
