@@ -30,7 +30,7 @@ def code(line, comment):
 
 
 def snake(name):
-    return re.sub(r"(?<=[a-z0-9])[A-Z]", lambda m: "_" + m.group(0).lower(), name).replace("-", "_")
+    return re.sub(r"(?<=[A-Za-z0-9])[A-Z]", lambda m: "_" + m.group(0).lower(), name).replace("-", "_")
 
 
 def odd(name):

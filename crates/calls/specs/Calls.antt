@@ -1,6 +1,6 @@
 -- What each operation replies, and every word that it leaves (document 01, 'What each operation replies').
 use Rattle.std.specs.Prelude.{ℕ, ◌+◌, ◌/◌, List, [], ◌∷◌, ◌++◌, Bool, true, false, cond, ◌&&◌, not, length, set, drop, replicate, eqb, leb, ltb}
-use Rattle.steps.specs.Numbers.{broadcast_content, agreement_content, share_content, success, not_aState, scratch_too_short, answers_malformed, epoch_too_high, message_malformed, answers_unread, step_table_too_short, unknown_sender, target_too_high, last_epoch, fault_limit}
+use Rattle.steps.specs.Numbers.{broadcast_content, agreement_content, share_content, success, not_a_state, scratch_too_short, answers_malformed, epoch_too_high, message_malformed, answers_unread, step_table_too_short, unknown_sender, target_too_high, last_epoch, fault_limit}
 use Rattle.steps.specs.Table.{handle, within, table_ok}
 use Rattle.steps.specs.Answers.{Rec, tape_of}
 use Rattle.steps.specs.Steps.{Entry, faults, written, written_failed}
@@ -70,7 +70,7 @@ module _ (state scratch answers step : List ℕ) where
   -- propose with one more check: 3, 4, 5, 6, then the reply g where it is not 0, then the run
   unfoldable pub propose_after : ℕ → After
   propose_after g =
-      cond (not (state_ok state)) (after not_aState state scratch step)
+      cond (not (state_ok state)) (after not_a_state state scratch step)
       (cond (ltb (length scratch) (scratch_of state)) (after scratch_too_short state scratch step)
       (cond (not (table_ok (nodes state) answers)) (after answers_malformed state (zeroed state scratch) step)
       (cond (ltb last_epoch (current_epoch state)) (after epoch_too_high state (zeroed state scratch) step)
@@ -85,7 +85,7 @@ module _ (state scratch answers step : List ℕ) where
     -- message: checks 3, 4, 5, 11, 7, 6, then the run
     unfoldable pub message_call : After
     message_call =
-        cond (not (state_ok state)) (after not_aState state scratch step)
+        cond (not (state_ok state)) (after not_a_state state scratch step)
         (cond (ltb (length scratch) (scratch_of state)) (after scratch_too_short state scratch step)
         (cond (not (table_ok (nodes state) answers)) (after answers_malformed state (zeroed state scratch) step)
         (cond (leb (nodes state) sender) (after unknown_sender state (zeroed state scratch) step)
@@ -96,14 +96,14 @@ module _ (state scratch answers step : List ℕ) where
 
 -- skip: its reply, and the state afterwards. "12: target above 2^62. No step."
 unfoldable pub skip_reply : ℕ → List ℕ → ℕ
-skip_reply target w = cond (not (state_ok w)) not_aState (cond (ltb last_epoch target) target_too_high success)
+skip_reply target w = cond (not (state_ok w)) not_a_state (cond (ltb last_epoch target) target_too_high success)
 
 unfoldable pub skip_state : ℕ → List ℕ → List ℕ
 skip_state target w = cond (eqb (skip_reply target w) success) (skip_to_epoch target w) w
 
 -- queries: reply 3 or 0, and the result, untouched where the reply is 3
 unfoldable pub query_reply : List ℕ → ℕ
-query_reply w = cond (state_ok w) success not_aState
+query_reply w = cond (state_ok w) success not_a_state
 
 unfoldable pub current_epoch_result : List ℕ → ℕ → ℕ
 current_epoch_result w result = cond (state_ok w) (current_epoch w) result

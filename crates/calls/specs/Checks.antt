@@ -1,7 +1,7 @@
 -- The checks of propose and message apart from the run, as the code does them: the reply that turns a call down, or 0.
 -- Nobody has to believe these: proofs/ChecksApart.antt proves that with what follows them they are the calls of Calls.antt.
 use Rattle.std.specs.Prelude.{ℕ, List, Bool, cond, not, eqb, leb, ltb}
-use Rattle.steps.specs.Numbers.{success, not_aState, scratch_too_short, answers_malformed, epoch_too_high, message_malformed, unknown_sender, last_epoch}
+use Rattle.steps.specs.Numbers.{success, not_a_state, scratch_too_short, answers_malformed, epoch_too_high, message_malformed, unknown_sender, last_epoch}
 use Rattle.steps.specs.Table.{within, table_ok}
 use Rattle.state.specs.State.{nodes, current_epoch, scratch_of, state_ok}
 use Rattle.calls.specs.Calls.{After, after, zeroed, content_ok, item_ok}
@@ -14,7 +14,7 @@ module _ (state : List ℕ) (scratch : ℕ) (answers : List ℕ) where
   -- 3, 4, 5; `scratch` is its length
   unfoldable pub first_checks : ℕ
   first_checks =
-      cond (not (state_ok state)) not_aState
+      cond (not (state_ok state)) not_a_state
       (cond (ltb scratch (scratch_of state)) scratch_too_short
       (cond (not (table_ok (nodes state) answers)) answers_malformed success))
 
@@ -38,7 +38,7 @@ message_checks sender content proposer item state scratch answers =
 
 -- 3 and 4
 abbrev pub leaves_scratch : ℕ → Bool
-leaves_scratch reply = within not_aState scratch_too_short reply
+leaves_scratch reply = within not_a_state scratch_too_short reply
 
 -- what a call comes to by the reply of its checks: 3 and 4 leave scratch, the others zero it
 unfoldable pub after_checks : ℕ → List ℕ → List ℕ → List ℕ → After → After

@@ -1,6 +1,6 @@
 -- What document 01 says of every call: the words of the laws that proofs/ proves. First the numbers that it lists for each operation.
 use Rattle.std.specs.Prelude.{ℕ, ◌≤◌, ◌≡◌, List, [], ◌∷◌, Bool, true, false, cond, length, eqb}
-use Rattle.steps.specs.Numbers.{success, not_aState, scratch_too_short, answers_malformed, epoch_too_high, message_malformed, answer_not_next, answers_unread, step_table_too_short, unknown_sender, create_subset, propose_bincode, input_subset, handle_subset_message, decryption, multiple_inputs}
+use Rattle.steps.specs.Numbers.{success, not_a_state, scratch_too_short, answers_malformed, epoch_too_high, message_malformed, answer_not_next, answers_unread, step_table_too_short, unknown_sender, create_subset, propose_bincode, input_subset, handle_subset_message, decryption, multiple_inputs}
 use Rattle.steps.specs.Table.{within}
 use Rattle.state.specs.State.{scratch_of}
 use Rattle.calls.specs.Calls.{After, zeroed}
@@ -19,7 +19,7 @@ propose_failures = create_subset ∷ propose_bincode ∷ input_subset ∷ decryp
 
 abbrev pub propose_replies : List ℕ
 propose_replies =
-    success ∷ not_aState ∷ scratch_too_short ∷ answers_malformed ∷ epoch_too_high ∷ answer_not_next ∷ answers_unread ∷ step_table_too_short
+    success ∷ not_a_state ∷ scratch_too_short ∷ answers_malformed ∷ epoch_too_high ∷ answer_not_next ∷ answers_unread ∷ step_table_too_short
     ∷ propose_failures
 
 -- "Failures 20, 23 `HandleSubsetMessage`, 24, 25."
@@ -28,7 +28,7 @@ message_failures = create_subset ∷ handle_subset_message ∷ decryption ∷ mu
 
 abbrev pub message_replies : List ℕ
 message_replies =
-    success ∷ not_aState ∷ scratch_too_short ∷ answers_malformed ∷ epoch_too_high ∷ message_malformed ∷ answer_not_next ∷ answers_unread
+    success ∷ not_a_state ∷ scratch_too_short ∷ answers_malformed ∷ epoch_too_high ∷ message_malformed ∷ answer_not_next ∷ answers_unread
     ∷ step_table_too_short ∷ unknown_sender ∷ message_failures
 
 -- of a propose or message, whatever words are lent
@@ -39,5 +39,5 @@ pub record Promised (replies state scratch step : List ℕ) (r : After) : Type 0
   pub refusal : is_refusal r.reply ≡ true → (r.state ≡ state) × (r.step ≡ step)
   -- "After any propose or message that passes 4, the first state-length words of scratch are zero, the rest untouched; before that all of it
   -- is untouched."
-  pub zeros : r.scratch ≡ cond (one_of (not_aState ∷ scratch_too_short ∷ []) r.reply) scratch (zeroed state scratch)
-  pub room : one_of (not_aState ∷ scratch_too_short ∷ []) r.reply ≡ false → scratch_of state ≤ length scratch
+  pub zeros : r.scratch ≡ cond (one_of (not_a_state ∷ scratch_too_short ∷ []) r.reply) scratch (zeroed state scratch)
+  pub room : one_of (not_a_state ∷ scratch_too_short ∷ []) r.reply ≡ false → scratch_of state ≤ length scratch

@@ -122,8 +122,8 @@ abbrev pub wrong_state_length : ℕ
 wrong_state_length = 2
 
 -- "3: not a state"
-abbrev pub not_aState : ℕ
-not_aState = 3
+abbrev pub not_a_state : ℕ
+not_a_state = 3
 
 -- "4: scratch shorter than the state"
 abbrev pub scratch_too_short : ℕ
