@@ -25,7 +25,7 @@ VERSION := $(shell sed -n 's/^.define BELKJUND_VERSION "\(.*\)"/\1/p' include/be
 
 WAKE_SOURCES := $(wildcard examples/wake/*.c)
 WAKE_HEADERS := $(wildcard examples/wake/*.h)
-PROVED_FROM := crates.txt $(shell find crates -name out -prune -o -type f \( -name '*.rt' -o -name '*.antt' \) -print 2>/dev/null)
+PROVED_FROM := crates.txt $(shell find crates -regex 'crates/[^/]*/out' -prune -o -type f \( -name '*.rt' -o -name '*.antt' \) -print 2>/dev/null)
 
 # need COMMAND,HOW TO GET IT: one line where the command is not there
 need = @command -v $(firstword $(1)) >/dev/null 2>&1 || { echo "belkjund: '$(firstword $(1))' is missing: $(2)" >&2; exit 1; }

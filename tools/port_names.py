@@ -1,8 +1,8 @@
 #!/usr/bin/env python3
-"""Brings the repository's own definitions and lemmas to Rattle's spelling: words in snake case. Run once, right after port.py, at the top.
+"""Brings the repository's own definitions and lemmas to Rattle's spelling: words in snake case.
 
-usage: tools/port_names.py              rewrites crates/**/*.antt, *.rt and *.edit
-       tools/port_names.py --pages F..  rewrites the names in backquotes of these pages, by the list that the first form wrote to tools/port_names.txt
+It was run once, right after the kit's port.py (docs/PORT.md), at the top of the repository, and rewrote crates/**/*.antt, *.rt and *.edit. It is kept so that
+this can be done again from the commit in the first line of that page. Never run it on today's tree.
 
 A name is a repository's own where a file of crates/ has it and no file imports it from elsewhere. Types, modules, functions of src/ and strings keep
 their names. A lemma that would fall together with a definition gets `_lem`.
@@ -17,9 +17,7 @@ import sys
 TOKEN = re.compile(r"[A-Za-z0-9_'₀-₉α-ωκμ∗⊛‵-]+")
 LOWER = re.compile(r"^[a-z]")
 CAMEL = re.compile(r"^[a-z][a-z0-9]*[A-Z]")
-MADE = re.compile(r"^(loop|returns|same|enum|invariant|decreases|overflow)-")
 USE = re.compile(r"use\s+([^\s{};]+)\.\{([^}]*)\}")
-LIST = "tools/port_names.txt"
 
 
 def code(line, comment):
@@ -87,7 +85,7 @@ def own_names():
     return names
 
 
-def replaced(line, names, skip, comment, pages=False):
+def replaced(line, names, skip, comment):
     """The line with its names replaced: in code each, in a comment those in lower camel case and those in backquotes."""
 
     def put(m):
@@ -107,17 +105,8 @@ def replaced(line, names, skip, comment, pages=False):
     return body_new + in_comment(line[len(body):])
 
 
-def main(argv):
-    if argv[:1] == ["--pages"]:
-        names = dict(l.split() for l in open(LIST, encoding="utf-8"))
-        for p in argv[1:]:
-            text = open(p, encoding="utf-8").read()
-            text = re.sub(r"`[^`\n]*`", lambda m: TOKEN.sub(lambda t: names.get(t.group(0), t.group(0)), m.group(0)), text)
-            open(p, "w", encoding="utf-8").write(text)
-        return
+def main():
     names = own_names()
-    with open(LIST, "w", encoding="utf-8") as f:
-        f.writelines(f"{a} {b}\n" for a, b in sorted(names.items()))
     for p in files("*/specs/**/*.antt", "*/proofs/**/*.antt"):
         text = open(p, encoding="utf-8").read()
         skip = elsewhere(text)
@@ -137,4 +126,4 @@ def main(argv):
 
 
 if __name__ == "__main__":
-    main(sys.argv[1:])
+    main()

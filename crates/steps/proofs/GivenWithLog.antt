@@ -24,7 +24,7 @@ module _ {S A : Type 0} where
   abbrev pub Gives : Run S A → (A → S → Tape → List Entry → Type 0) → Type 0
   Gives r Q = GivesAs r.verdict r.state r.tape r.log Q
 
-  -- as gives-map, of the run's own state, tape and log
+  -- as gives_map, of the run's own state, tape and log
   pub gives_own : (r : Run S A) (P Q : A → S → Tape → List Entry → Type 0) → Gives r P
       → ((a : A) → P a r.state r.tape r.log → Q a r.state r.tape r.log) → Gives r Q
   gives_own r P Q h k = go r.verdict h
