@@ -14,7 +14,7 @@ use Rattle.steps.specs.Steps.{Out, put_all}
 use Rattle.steps.specs.Runs.{Verdict, going, ends, onward_as, onward, Left, leaves}
 use Rattle.steps.proofs.RunLaws.{onward_go, onward_stop}
 use Rattle.decryption.specs.Decrypt.{new}
-use Rattle.subset.specs.Words.{epoch_length, new_epoch, count_at, value_at, arrival_at, contributor, drop_from}
+use Rattle.subset.specs.Words.{epoch_length, new_epoch, count_at, value_at, arrival_at, contributor, drop_from, record_at}
 use Rattle.epochwords.specs.declared.SubsetHandlingStrategy.{SubsetHandlingStrategy}
 use Rattle.epochwords.specs.declared.SubsetHandlingStrategy.TheVariants.{Incremental, AllAtEnd}
 use Rattle.epoch.specs.declared.epoch_state.Outcome.{Outcome}
@@ -26,6 +26,7 @@ use Rattle.epoch.specs.Outcomes.{outcome_verdict, left_done}
 use Rattle.steps.proofs.Logic.{anything}
 use Rattle.steps.proofs.StateKept.{still}
 use Rattle.epoch.proofs.Walk.{Handles, holds, handles_hold, contribution_keeps, handle_from_keeps}
+use Rattle.epochwords.proofs.EntryCode.{epoch_small, record_inside}
 use Rattle.epochwords.proofs.EntryStored.{accept_word, store_low, store_subset}
 
 -- the way of a `let Outcome::Done = x else` that is not taken
@@ -33,6 +34,13 @@ pub not_done : (x : Outcome) → (x ≡ Done → ⊥) → (a : Unit {0}) → out
 not_done Done h a e = h refl
 not_done Refused h a e = let z : ◌≡◌ {A = ℕ} 0 1 = cc in omega arith
 not_done (Failed n) h a e = let z : ◌≡◌ {A = ℕ} 0 1 = cc in omega arith
+
+-- the record at which the i-th contribution's proposer stands and that proposer's own are inside the epoch, which is small
+pub records_inside : (n i k : ℕ) (w : List ℕ) → n ≤ 16 → i < k → k ≤ n → ((j : ℕ) → j < n → contributor n w j < n)
+    → (record_at n i 7 < epoch_length n) × (record_at n (contributor n w i) 7 < epoch_length n) × (epoch_length n ≤ 400)
+records_inside n i k w few below most who =
+    let here : i < n = omega arith in
+    ((record_inside n i few here).0, (record_inside n (contributor n w i) few (who i here)).0, epoch_small n few)
 
 -- THE LIST of contributions stays while they are handled
 module _ (n : ℕ) where

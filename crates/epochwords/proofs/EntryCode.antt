@@ -24,6 +24,10 @@ epoch_small n h =
     let a : n * (8 + n) ≤ 16 * (8 + n) = mul-le-mul_right (8 + n) h in
     omega arith
 
+-- the eight words of a record are inside its epoch, which is small
+pub record_inside : (n p : ℕ) → n ≤ 16 → p < n → (record_at n p 7 < epoch_length n) × (epoch_length n ≤ 400)
+record_inside n p few h = (within_record n p 7 h (omega arith), epoch_small n few)
+
 -- SHARES that are loaded: one more
 module _ (n p : ℕ) where
   shares_length : (m i : ℕ) (w : List ℕ) → length (shares_from n p m i w) ≡ m

@@ -2,7 +2,6 @@
 use mathlib.Core.Path.{refl, sym, ◌∙◌}
 use mathlib.Core.List.{[], ◌∷◌, ◌++◌}
 use native.Mathlib.Omega.{arith}
-use borrow.Author.Tests.{not-true, not-false}
 use Rattle.steps.specs.Answers.{tape_of}
 use Rattle.steps.specs.Steps.{fault}
 use Rattle.state.proofs.WordsCode.{header_inside}
@@ -11,10 +10,10 @@ use Rattle.calls.proofs.CallCode.{nothing, after_same, still_unread, still_full,
 use Rattle.calls.proofs.call.too_early.Goals as goal
 
 pub returns-then-not-is_end : goal.returns-then-not-is_end
-returns-then-not-is_end c = λ s. still_unread c.args.state.now s c.args.table.now c.args.epoch (tape_of c.args.answers.now) ((fault 1 c.args.sender 0) ∷ []) (sym c.is_end.ensures ∙ not-true _ c.if-not-is_end.true-raw)
+returns-then-not-is_end c = λ s. still_unread c.args.state.now s c.args.table.now c.args.epoch (tape_of c.args.answers.now) ((fault 1 c.args.sender 0) ∷ []) (sym c.is_end.ensures ∙ c.if-not-is_end.true)
 
 pub returns-then-table-lt2 : goal.returns-then-table-lt2
-returns-then-table-lt2 c = λ s. still_full c.args.state.now s c.args.table.now c.args.epoch (tape_of c.args.answers.now) ((fault 1 c.args.sender 0) ∷ []) (sym c.is_end.ensures ∙ not-false _ c.if-not-is_end.false-raw) (omega (arith, c.if-table-lt2.true))
+returns-then-table-lt2 c = λ s. still_full c.args.state.now s c.args.table.now c.args.epoch (tape_of c.args.answers.now) ((fault 1 c.args.sender 0) ∷ []) (sym c.is_end.ensures ∙ c.if-not-is_end.false) (omega (arith, c.if-table-lt2.true))
 
 pub writing-writing-requires : goal.writing-writing-requires
 writing-writing-requires c = early_counted (fault 1 c.args.sender 0) c.counting.result c.counting.ensures c.fault-counted.result _ c.fault-counted.ensures
@@ -26,4 +25,4 @@ pub returns : goal.returns
 returns c = λ s.
     after_same 0 _ _ s s _ _ (c.count_faults.ensures ∙ one_fault c.args.state.now 1 c.args.sender 0) refl c.header.ensures
     ∙ early_done (fault 1 c.args.sender 0) c.counting.result c.counting.ensures c.fault-counted.result _ c.fault-counted.ensures c.args.state.now s c.args.table.now (c.fault-counted.new.words ++ c.args.table.now) (nothing c.fault-counted.new.words c.args.table.now c.fault-counted.auto.words) c.args.epoch (tape_of c.args.answers.now)
-    c.writing-writing.result c.writing-writing.ensures c.fault.result c.fault.new.words c.fault.ensures (sym c.is_end.ensures ∙ not-false _ c.if-not-is_end.false-raw) (omega (arith, c.if-table-lt2.false))
+    c.writing-writing.result c.writing-writing.ensures c.fault.result c.fault.new.words c.fault.ensures (sym c.is_end.ensures ∙ c.if-not-is_end.false) (omega (arith, c.if-table-lt2.false))

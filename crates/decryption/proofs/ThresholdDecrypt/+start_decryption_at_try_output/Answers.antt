@@ -1,6 +1,5 @@
 -- `start_decryption_at` and `try_output` meet their contracts, case by case. Each call of one by the other sets a flag that was not set.
 -- Assumes nothing.
-use borrow.Author.Tests.{not-true, not-false}
 use mathlib.Core.Path.{sym, ap, ◌∙◌}
 use Rattle.steps.specs.Runs.{leaves}
 use Rattle.steps.proofs.ChainLaws.{and-true}
@@ -22,16 +21,16 @@ pub start_decryption_at-try_output-requires : goal.start_decryption_at-try_outpu
 start_decryption_at-try_output-requires t c = (started_falls _ _ _ _ t c.decreases c.if-self.false c.remove_invalid_shares-removed.ensures, c.requires)
 
 pub start_decryption_at-returns-then-not-is_validator-net : goal.start_decryption_at-returns-then-not-is_validator-net
-start_decryption_at-returns-then-not-is_validator-net t c = c.try_output.ensures ∙ ap (leaves _) (sym (own_observer _ _ _ _ _ (rw (← c.is_validator.ensures) (not-true _ c.if-not-is_validator-net.true-raw)))) ∙ start_goes _ _ _ _ _ _ c.if-self.false c.if-self-eq0.false c.remove_invalid_shares-removed.ensures (ap checked_verdict c.in-Done.is)
+start_decryption_at-returns-then-not-is_validator-net t c = c.try_output.ensures ∙ ap (leaves _) (sym (own_observer _ _ _ _ _ (rw (← c.is_validator.ensures) (c.if-not-is_validator-net.true)))) ∙ start_goes _ _ _ _ _ _ c.if-self.false c.if-self-eq0.false c.remove_invalid_shares-removed.ensures (ap checked_verdict c.in-Done.is)
 
 pub start_decryption_at-try_output-requires-in-Got : goal.start_decryption_at-try_output-requires-in-Got
 start_decryption_at-try_output-requires-in-Got t c = (started_falls _ _ _ _ t c.decreases c.if-self.false c.remove_invalid_shares-removed.ensures, c.requires)
 
 pub start_decryption_at-returns-in-Got : goal.start_decryption_at-returns-in-Got
-start_decryption_at-returns-in-Got t c = c.try_output-in-Got.ensures ∙ own_sends _ _ _ _ _ _ _ c.ask_from.ensures (rw (← c.is_validator.ensures) (not-false _ c.if-not-is_validator-net.false-raw)) _ _ c.in-Got.is _ _ c.message-sent.ensures ∙ start_goes _ _ _ _ _ _ c.if-self.false c.if-self-eq0.false c.remove_invalid_shares-removed.ensures (ap checked_verdict c.in-Done.is)
+start_decryption_at-returns-in-Got t c = c.try_output-in-Got.ensures ∙ own_sends _ _ _ _ _ _ _ c.ask_from.ensures (rw (← c.is_validator.ensures) (c.if-not-is_validator-net.false)) _ _ c.in-Got.is _ _ c.message-sent.ensures ∙ start_goes _ _ _ _ _ _ c.if-self.false c.if-self-eq0.false c.remove_invalid_shares-removed.ensures (ap checked_verdict c.in-Done.is)
 
 pub start_decryption_at-returns-in-Refused : goal.start_decryption_at-returns-in-Refused
-start_decryption_at-returns-in-Refused t c = hands c.handled-in-Refused.ensures ∙ ap (leaves _) (sym (own_refused _ _ _ _ _ _ _ c.ask_from.ensures (rw (← c.is_validator.ensures) (not-false _ c.if-not-is_validator-net.false-raw)) c.in-Refused.is)) ∙ start_goes _ _ _ _ _ _ c.if-self.false c.if-self-eq0.false c.remove_invalid_shares-removed.ensures (ap checked_verdict c.in-Done.is)
+start_decryption_at-returns-in-Refused t c = hands c.handled-in-Refused.ensures ∙ ap (leaves _) (sym (own_refused _ _ _ _ _ _ _ c.ask_from.ensures (rw (← c.is_validator.ensures) (c.if-not-is_validator-net.false)) c.in-Refused.is)) ∙ start_goes _ _ _ _ _ _ c.if-self.false c.if-self-eq0.false c.remove_invalid_shares-removed.ensures (ap checked_verdict c.in-Done.is)
 
 pub try_output-start_decryption_at-started-requires : goal.try_output-start_decryption_at-started-requires
 try_output-start_decryption_at-started-requires t c = (ended_falls c.args.self _ t c.decreases (ready c.args.net c.args.proposer c.args.self _ c.count.ensures (and-true _ _ c.if-combines-td.true).0).0 (ready c.args.net c.args.proposer c.args.self _ c.count.ensures (and-true _ _ c.if-combines-td.true).0).3, c.requires)

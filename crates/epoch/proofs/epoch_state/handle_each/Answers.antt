@@ -7,12 +7,12 @@ use Rattle.steps.specs.Answers.{tape_at}
 use Rattle.steps.specs.Steps.{put_all}
 use Rattle.steps.specs.Runs.{leaves}
 use Rattle.steps.proofs.RunLaws.{onward_go, onward_stop}
-use Rattle.subset.specs.Words.{count_of, contributor}
+use Rattle.subset.specs.Words.{count_of}
 use Rattle.epochwords.specs.declared.SubsetHandlingStrategy.TheVariants.{Incremental}
 use Rattle.epoch.specs.Outcomes.{outcome_verdict}
 use Rattle.epoch.specs.Epoch.{handle_from}
-use Rattle.epochwords.proofs.EntryCode.{all_left, within_record, epoch_small}
-use Rattle.epoch.proofs.ContributionCode.{not_done, kept_contribution, each_turn, each_done}
+use Rattle.epochwords.proofs.EntryCode.{all_left}
+use Rattle.epoch.proofs.ContributionCode.{not_done, records_inside, kept_contribution, each_turn, each_done}
 use Rattle.epoch.proofs.epoch_state.handle_each.Goals as goal
 
 pub bounds-epoch-3 : goal.bounds-epoch-3
@@ -22,40 +22,40 @@ pub loop-i-init : goal.loop-i-init
 loop-i-init c = (omega arith, refl, refl, c.requires.2, λ s. rw (all_left _))
 
 pub overflow_add-p : goal.overflow_add-p
-overflow_add-p c = omega (arith, within_record c.args.net.num_nodes c.loop-i.i 7 (omega (arith, c.loop-i-test.true, c.requires.2.count)) (omega arith), within_record c.args.net.num_nodes (contributor c.args.net.num_nodes c.loop-i.epoch c.loop-i.i) 1 (c.loop-i.invariant.3.who c.loop-i.i (omega (arith, c.loop-i-test.true, c.requires.2.count))) (omega arith), epoch_small c.args.net.num_nodes c.requires.1.few, c.requires.1.few, c.requires.1.long, c.loop-i.invariant.1)
+overflow_add-p c = omega (arith, records_inside _ c.loop-i.i _ c.loop-i.epoch c.requires.1.few c.loop-i-test.true c.requires.2.count c.loop-i.invariant.3.who)
 
 pub overflow_mul-p : goal.overflow_mul-p
-overflow_mul-p c = omega (arith, within_record c.args.net.num_nodes c.loop-i.i 7 (omega (arith, c.loop-i-test.true, c.requires.2.count)) (omega arith), within_record c.args.net.num_nodes (contributor c.args.net.num_nodes c.loop-i.epoch c.loop-i.i) 1 (c.loop-i.invariant.3.who c.loop-i.i (omega (arith, c.loop-i-test.true, c.requires.2.count))) (omega arith), epoch_small c.args.net.num_nodes c.requires.1.few, c.requires.1.few, c.requires.1.long, c.loop-i.invariant.1)
+overflow_mul-p c = omega (arith, records_inside _ c.loop-i.i _ c.loop-i.epoch c.requires.1.few c.loop-i-test.true c.requires.2.count c.loop-i.invariant.3.who)
 
 pub overflow_add-p-in-loop-i : goal.overflow_add-p-in-loop-i
-overflow_add-p-in-loop-i c = omega (arith, within_record c.args.net.num_nodes c.loop-i.i 7 (omega (arith, c.loop-i-test.true, c.requires.2.count)) (omega arith), within_record c.args.net.num_nodes (contributor c.args.net.num_nodes c.loop-i.epoch c.loop-i.i) 1 (c.loop-i.invariant.3.who c.loop-i.i (omega (arith, c.loop-i-test.true, c.requires.2.count))) (omega arith), epoch_small c.args.net.num_nodes c.requires.1.few, c.requires.1.few, c.requires.1.long, c.loop-i.invariant.1)
+overflow_add-p-in-loop-i c = omega (arith, records_inside _ c.loop-i.i _ c.loop-i.epoch c.requires.1.few c.loop-i-test.true c.requires.2.count c.loop-i.invariant.3.who)
 
 pub overflow_add-p-in-loop-i-2 : goal.overflow_add-p-in-loop-i-2
-overflow_add-p-in-loop-i-2 c = omega (arith, within_record c.args.net.num_nodes c.loop-i.i 7 (omega (arith, c.loop-i-test.true, c.requires.2.count)) (omega arith), within_record c.args.net.num_nodes (contributor c.args.net.num_nodes c.loop-i.epoch c.loop-i.i) 1 (c.loop-i.invariant.3.who c.loop-i.i (omega (arith, c.loop-i-test.true, c.requires.2.count))) (omega arith), epoch_small c.args.net.num_nodes c.requires.1.few, c.requires.1.few, c.requires.1.long, c.loop-i.invariant.1)
+overflow_add-p-in-loop-i-2 c = omega (arith, records_inside _ c.loop-i.i _ c.loop-i.epoch c.requires.1.few c.loop-i-test.true c.requires.2.count c.loop-i.invariant.3.who)
 
 pub offset_bounds-epoch-i : goal.offset_bounds-epoch-i
-offset_bounds-epoch-i c = omega (arith, within_record c.args.net.num_nodes c.loop-i.i 7 (omega (arith, c.loop-i-test.true, c.requires.2.count)) (omega arith), within_record c.args.net.num_nodes (contributor c.args.net.num_nodes c.loop-i.epoch c.loop-i.i) 1 (c.loop-i.invariant.3.who c.loop-i.i (omega (arith, c.loop-i-test.true, c.requires.2.count))) (omega arith), epoch_small c.args.net.num_nodes c.requires.1.few, c.requires.1.few, c.requires.1.long, c.loop-i.invariant.1)
+offset_bounds-epoch-i c = omega (arith, records_inside _ c.loop-i.i _ c.loop-i.epoch c.requires.1.few c.loop-i-test.true c.requires.2.count c.loop-i.invariant.3.who)
 
 pub bounds-epoch-i : goal.bounds-epoch-i
-bounds-epoch-i c = omega (arith, within_record c.args.net.num_nodes c.loop-i.i 7 (omega (arith, c.loop-i-test.true, c.requires.2.count)) (omega arith), within_record c.args.net.num_nodes (contributor c.args.net.num_nodes c.loop-i.epoch c.loop-i.i) 1 (c.loop-i.invariant.3.who c.loop-i.i (omega (arith, c.loop-i-test.true, c.requires.2.count))) (omega arith), epoch_small c.args.net.num_nodes c.requires.1.few, c.requires.1.few, c.requires.1.long, c.loop-i.invariant.1)
+bounds-epoch-i c = omega (arith, records_inside _ c.loop-i.i _ c.loop-i.epoch c.requires.1.few c.loop-i-test.true c.requires.2.count c.loop-i.invariant.3.who)
 
 pub overflow_add-value : goal.overflow_add-value
-overflow_add-value c = omega (arith, within_record c.args.net.num_nodes c.loop-i.i 7 (omega (arith, c.loop-i-test.true, c.requires.2.count)) (omega arith), within_record c.args.net.num_nodes (contributor c.args.net.num_nodes c.loop-i.epoch c.loop-i.i) 1 (c.loop-i.invariant.3.who c.loop-i.i (omega (arith, c.loop-i-test.true, c.requires.2.count))) (omega arith), epoch_small c.args.net.num_nodes c.requires.1.few, c.requires.1.few, c.requires.1.long, c.loop-i.invariant.1)
+overflow_add-value c = omega (arith, records_inside _ c.loop-i.i _ c.loop-i.epoch c.requires.1.few c.loop-i-test.true c.requires.2.count c.loop-i.invariant.3.who)
 
 pub overflow_mul-value : goal.overflow_mul-value
-overflow_mul-value c = omega (arith, within_record c.args.net.num_nodes c.loop-i.i 7 (omega (arith, c.loop-i-test.true, c.requires.2.count)) (omega arith), within_record c.args.net.num_nodes (contributor c.args.net.num_nodes c.loop-i.epoch c.loop-i.i) 1 (c.loop-i.invariant.3.who c.loop-i.i (omega (arith, c.loop-i-test.true, c.requires.2.count))) (omega arith), epoch_small c.args.net.num_nodes c.requires.1.few, c.requires.1.few, c.requires.1.long, c.loop-i.invariant.1)
+overflow_mul-value c = omega (arith, records_inside _ c.loop-i.i _ c.loop-i.epoch c.requires.1.few c.loop-i-test.true c.requires.2.count c.loop-i.invariant.3.who)
 
 pub overflow_add-value-in-loop-i : goal.overflow_add-value-in-loop-i
-overflow_add-value-in-loop-i c = omega (arith, within_record c.args.net.num_nodes c.loop-i.i 7 (omega (arith, c.loop-i-test.true, c.requires.2.count)) (omega arith), within_record c.args.net.num_nodes (contributor c.args.net.num_nodes c.loop-i.epoch c.loop-i.i) 1 (c.loop-i.invariant.3.who c.loop-i.i (omega (arith, c.loop-i-test.true, c.requires.2.count))) (omega arith), epoch_small c.args.net.num_nodes c.requires.1.few, c.requires.1.few, c.requires.1.long, c.loop-i.invariant.1)
+overflow_add-value-in-loop-i c = omega (arith, records_inside _ c.loop-i.i _ c.loop-i.epoch c.requires.1.few c.loop-i-test.true c.requires.2.count c.loop-i.invariant.3.who)
 
 pub overflow_add-value-in-loop-i-2 : goal.overflow_add-value-in-loop-i-2
-overflow_add-value-in-loop-i-2 c = omega (arith, within_record c.args.net.num_nodes c.loop-i.i 7 (omega (arith, c.loop-i-test.true, c.requires.2.count)) (omega arith), within_record c.args.net.num_nodes (contributor c.args.net.num_nodes c.loop-i.epoch c.loop-i.i) 1 (c.loop-i.invariant.3.who c.loop-i.i (omega (arith, c.loop-i-test.true, c.requires.2.count))) (omega arith), epoch_small c.args.net.num_nodes c.requires.1.few, c.requires.1.few, c.requires.1.long, c.loop-i.invariant.1)
+overflow_add-value-in-loop-i-2 c = omega (arith, records_inside _ c.loop-i.i _ c.loop-i.epoch c.requires.1.few c.loop-i-test.true c.requires.2.count c.loop-i.invariant.3.who)
 
 pub offset_bounds-epoch-p : goal.offset_bounds-epoch-p
-offset_bounds-epoch-p c = omega (arith, within_record c.args.net.num_nodes c.loop-i.i 7 (omega (arith, c.loop-i-test.true, c.requires.2.count)) (omega arith), within_record c.args.net.num_nodes (contributor c.args.net.num_nodes c.loop-i.epoch c.loop-i.i) 1 (c.loop-i.invariant.3.who c.loop-i.i (omega (arith, c.loop-i-test.true, c.requires.2.count))) (omega arith), epoch_small c.args.net.num_nodes c.requires.1.few, c.requires.1.few, c.requires.1.long, c.loop-i.invariant.1)
+offset_bounds-epoch-p c = omega (arith, records_inside _ c.loop-i.i _ c.loop-i.epoch c.requires.1.few c.loop-i-test.true c.requires.2.count c.loop-i.invariant.3.who)
 
 pub bounds-epoch-p : goal.bounds-epoch-p
-bounds-epoch-p c = omega (arith, within_record c.args.net.num_nodes c.loop-i.i 7 (omega (arith, c.loop-i-test.true, c.requires.2.count)) (omega arith), within_record c.args.net.num_nodes (contributor c.args.net.num_nodes c.loop-i.epoch c.loop-i.i) 1 (c.loop-i.invariant.3.who c.loop-i.i (omega (arith, c.loop-i-test.true, c.requires.2.count))) (omega arith), epoch_small c.args.net.num_nodes c.requires.1.few, c.requires.1.few, c.requires.1.long, c.loop-i.invariant.1)
+bounds-epoch-p c = omega (arith, records_inside _ c.loop-i.i _ c.loop-i.epoch c.requires.1.few c.loop-i-test.true c.requires.2.count c.loop-i.invariant.3.who)
 
 pub handle_contribution-handled-requires : goal.handle_contribution-handled-requires
 handle_contribution-handled-requires c = (c.requires.0, record { few = c.requires.1.few; long = c.loop-i.invariant.1 ∙ c.requires.1.long }, c.loop-i.invariant.3.who c.loop-i.i (omega (arith, c.loop-i-test.true, c.requires.2.count)))

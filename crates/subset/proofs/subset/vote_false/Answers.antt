@@ -1,6 +1,5 @@
 -- `vote_false` meets its contract: the proposal does not ask, or its step is stored. Assumes nothing.
 use mathlib.Core.Path.{sym, ap, ◌∙◌}
-use borrow.Author.Tests.{not-true, not-false}
 use Rattle.steps.specs.Steps.{put_all}
 use Rattle.steps.specs.Runs.{leaves}
 use Rattle.subset.proofs.SubsetCode.{agreement_silent, agreement_left}
@@ -8,7 +7,7 @@ use Rattle.subset.proofs.subset.vote_false.Goals as goal
 
 pub returns-then-not-asks_agreement : goal.returns-then-not-asks_agreement
 unfolding put_all
-returns-then-not-asks_agreement c = ap (leaves _) (sym (agreement_silent _ _ _ _ _ _ _ c.load_proposal-state.ensures (sym c.asks_agreement.ensures ∙ not-true _ c.if-not-asks_agreement.true-raw)))
+returns-then-not-asks_agreement c = ap (leaves _) (sym (agreement_silent _ _ _ _ _ _ _ c.load_proposal-state.ensures (sym c.asks_agreement.ensures ∙ c.if-not-asks_agreement.true)))
 
 pub returns : goal.returns
-returns c = agreement_left _ _ _ _ _ _ _ c.load_proposal-state.ensures c.vote_false-moved.result _ _ _ _ c.store_transition.ensures _ c.pass.ensures (sym c.asks_agreement.ensures ∙ not-false _ c.if-not-asks_agreement.false-raw) c.vote_false-moved.ensures
+returns c = agreement_left _ _ _ _ _ _ _ c.load_proposal-state.ensures c.vote_false-moved.result _ _ _ _ c.store_transition.ensures _ c.pass.ensures (sym c.asks_agreement.ensures ∙ c.if-not-asks_agreement.false) c.vote_false-moved.ensures

@@ -1,4 +1,5 @@
 -- `proposal_of` meets its contract, by the tag. Assumes nothing.
+use native.Mathlib.Omega.{arith}
 use borrow.Author.Tests.{ne_eqb}
 use Rattle.subset.specs.Words.{proposal_of}
 use Rattle.subset.proofs.words.proposal_of.Goals as goal
@@ -21,4 +22,4 @@ returns-in-3 c = rw c.in-3.is
 
 pub returns-in_default : goal.returns-in_default
 unfolding proposal_of
-returns-in_default c = let r = c.in_default.in_default-own.rest in rw (ne_eqb _ _ r.0.0.0.1, ne_eqb _ _ r.0.0.1, ne_eqb _ _ r.0.1, ne_eqb _ _ r.1)
+returns-in_default c = rw (ne_eqb c.args.tag 0 (λ e. omega arith), ne_eqb c.args.tag 1 (λ e. omega arith), ne_eqb c.args.tag 2 (λ e. omega arith), ne_eqb c.args.tag 3 (λ e. omega arith))
