@@ -6,7 +6,7 @@ use mathlib.Core.Logic.{◌⊎◌, inl, inr}
 use mathlib.Core.List.Memᴰ
 use mathlib.Core.List.{List, [], ◌∷◌, ◌++◌, Memᴰ}
 use mathlib.Core.Bool.{Bool, true, false, cond, ◌&&◌, false≢true}
-use mathlib.Core.Option.{Option, none, some}
+use Rattle.std.specs.Prelude.{Option, None, Some}
 use lib.Dec.{eqb}
 use lib.ListN.{length, take, drop}
 use lib.Seq.{take_at, drop_at}
@@ -25,7 +25,7 @@ pub record Handout (n f : ℕ) (v d x : ℕ → Option ℕ) (b : Batch) (rs : Li
   pub named : names_of rs ≡ names_from (λ q. is_true (d q)) n 0
   pub decided : (q : ℕ) → q < n → is_there (d q) ≡ true
   pub known : (q : ℕ) → q < n → is_true (d q) ≡ true → is_there (v q) ≡ true
-  pub texts : (q : ℕ) → q < n → is_true (d q) ≡ true → x q ≡ some (text q)
+  pub texts : (q : ℕ) → q < n → is_true (d q) ≡ true → x q ≡ Some (text q)
   pub entries : b.entries ≡ entries_of text rs
   pub count : b.count ≡ length b.entries
   pub enough : n - f ≤ ones_from d n 0
@@ -70,10 +70,10 @@ unfolding ones_from
 ones_are d e zero p h = refl
 ones_are d e (suc m) p h = rw (h p (omega arith) (omega arith), ones_are d e m (p + 1) (λ q a b. h q (omega arith) (omega arith)))
 
-pub there : (o : Option ℕ) → is_there o ≡ true → (x : ℕ) × (o ≡ some x)
+pub there : (o : Option ℕ) → is_there o ≡ true → (x : ℕ) × (o ≡ Some x)
 unfolding is_there
-there none e = absurd (false≢true e)
-there (some x) e = (x, refl)
+there None e = absurd (false≢true e)
+there (Some x) e = (x, refl)
 
 -- WHAT IS SETTLED STAYS SO
 module _ (n f : ℕ) (v d x v' d' x' : ℕ → Option ℕ) (gv : (q : ℕ) → Grown (v q) (v' q)) (gd : (q : ℕ) → Grown (d q) (d' q)) (gx : (q : ℕ) → Grown (x q) (x' q)) where
@@ -296,12 +296,12 @@ module _ (text : ℕ → ℕ) where
       go true ih = (rising_weak k (x.b + 1) (proposers_in (entries_of text rs)) (omega (arith, r.0)) ih.0, (r.0, ih.1))
       go false ih = ((r.0, ih.0), rising_weak k (x.b + 1) (unreadable_in rs) (omega (arith, r.0)) ih.1)
 
-pub true_one : (o : Option ℕ) → is_true o ≡ true → o ≡ some 1
+pub true_one : (o : Option ℕ) → is_true o ≡ true → o ≡ Some 1
 unfolding is_true
-true_one none e = absurd (false≢true e)
-true_one (some x) e = ap some (eqb-true x 1 e)
+true_one None e = absurd (false≢true e)
+true_one (Some x) e = ap Some (eqb-true x 1 e)
 
-pub is_true_lem : (o : Option ℕ) → o ≡ some 1 → is_true o ≡ true
+pub is_true_lem : (o : Option ℕ) → o ≡ Some 1 → is_true o ≡ true
 unfolding is_true
 is_true_lem o e = rw e
 

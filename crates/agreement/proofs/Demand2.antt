@@ -5,7 +5,7 @@ use mathlib.Core.Path.{◌≡◌, refl, sym, ap, ◌∙◌, subst, fun_ext}
 use mathlib.Core.Logic.{◌⊎◌, inl, inr}
 use mathlib.Core.List.{List, ◌∷◌, ◌++◌, Memᴰ}
 use mathlib.Core.Bool.{Bool, true, false, cond, ◌&&◌, ◌||◌, not}
-use mathlib.Core.Option.{Option, none}
+use Rattle.std.specs.Prelude.{Option, None}
 use lib.Dec.{leb}
 use lib.ListN.{get_or}
 use borrow.Author.Tests.{eqb-true, le-leb}
@@ -41,7 +41,7 @@ use Rattle.agreement.proofs.TwoRuns.{network_of, state_is, encrypted_as, started
 
 -- WHAT A RUN'S LAST WORDS KNOW
 abbrev untaken : Tk
-untaken e q = none
+untaken e q = None
 
 record Known (w₀ : List ℕ) (c : Numbers) (cs : List Call) : Type 0 where
   last : ℕ
@@ -56,9 +56,9 @@ record Known (w₀ : List ℕ) (c : Numbers) (cs : List Call) : Type 0 where
       ≡ eights_of (net_of w₀) (strategy_of w₀) (encrypted_in w₀ e) (value_taken (history c.epoch (turns w₀ cs)) e) (decision_taken (history c.epoch (turns w₀ cs)) e) q
 
 -- before any call
-none_eight : (net : NetworkInfo) (strategy : SubsetHandlingStrategy) (encrypted : Bool) (q : ℕ) → eights_of net strategy encrypted (λ _. none) (λ _. none) q ≡ 0
+none_eight : (net : NetworkInfo) (strategy : SubsetHandlingStrategy) (encrypted : Bool) (q : ℕ) → eights_of net strategy encrypted (λ _. None) (λ _. None) q ≡ 0
 unfolding is_true
-none_eight net strategy encrypted q = go encrypted (handles_now strategy (is_over net (λ _. none) (λ _. none)))
+none_eight net strategy encrypted q = go encrypted (handles_now strategy (is_over net (λ _. None) (λ _. None)))
   where
     go : (x y : Bool) → ◌≡◌ {A = ℕ} (cond (x && (y && false)) 1 0) 0
     go true true = refl
@@ -127,7 +127,7 @@ accepted_ok m s e p l u c below =
 -- DECRYPTED CONTRIBUTIONS
 pub decrypted_ok : (m : Made) → Sound m → (e p : ℕ) → current_epoch (end_of m) ≤ e → e ≤ current_epoch (end_of m) + ahead (end_of m)
     → is_complete (epoch_words (end_of m) e) ≡ true → p < (net_in m).num_nodes
-    → plaintext_of (load_decryption (net_in m).num_nodes (epoch_words (end_of m) e) p) ≡ cond (is_true (decision_taken (history_of m) e p)) (plaintext (encrypted_of m) (history_of m) e p) none
+    → plaintext_of (load_decryption (net_in m).num_nodes (epoch_words (end_of m) e) p) ≡ cond (is_true (decision_taken (history_of m) e p)) (plaintext (encrypted_of m) (history_of m) e p) None
 unfolding plaintext
 decrypted_ok m s e p l u c below =
     let k = known m s in

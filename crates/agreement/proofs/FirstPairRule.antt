@@ -3,7 +3,7 @@ use Prim.Native.Nat.{ℕ}
 use mathlib.Core.Path.{◌≡◌, refl}
 use mathlib.Core.List.{List, [], ◌∷◌}
 use mathlib.Core.Bool.{cond, ◌&&◌}
-use mathlib.Core.Option.{Option, some}
+use Rattle.std.specs.Prelude.{Option, Some}
 use lib.ListN.{take}
 use Rattle.steps.proofs.CaseTables.{table}
 use Rattle.subset.specs.Rule.{is_over, settled_from}
@@ -24,10 +24,10 @@ pairs_of m (x ∷ xs) = pairs_in x.batch.entries ∷ pairs_given (encrypted_of m
 -- epoch 0 is encrypted: 11 was taken and decrypts to 21. Epoch 1 is plain
 unfoldable pub pairs_out : List (List Paired)
 pairs_out =
-    (paired 0 (some 21) ∷ [])
-    ∷ (paired 0 (some 21) ∷ [])
-    ∷ (paired 0 (some 13) ∷ paired 1 (some 14) ∷ [])
-    ∷ (paired 0 (some 13) ∷ paired 1 (some 14) ∷ [])
+    (paired 0 (Some 21) ∷ [])
+    ∷ (paired 0 (Some 21) ∷ [])
+    ∷ (paired 0 (Some 13) ∷ paired 1 (Some 14) ∷ [])
+    ∷ (paired 0 (Some 13) ∷ paired 1 (Some 14) ∷ [])
     ∷ []
 
 pub pairs_a : pairs_of host_a (handed 2 (encrypted_of host_a) (history_of host_a)) ≡ pairs_out
@@ -74,7 +74,7 @@ eights_first_a = refl
 unfoldable pub decrypted_at : Made → ℕ → ℕ → Option ℕ
 decrypted_at m e p = plaintext_of (load_decryption 2 (epoch_words (end_of m) e) p)
 
-pub decrypted_first_a : decrypted_at (first 4 host_a) 1 0 ∷ decrypted_at (first 4 host_a) 1 1 ∷ [] ≡ some 13 ∷ some 14 ∷ []
+pub decrypted_first_a : decrypted_at (first 4 host_a) 1 0 ∷ decrypted_at (first 4 host_a) 1 1 ∷ [] ≡ Some 13 ∷ Some 14 ∷ []
 unfolding opened table host_a decrypted_at state_after_all
 decrypted_first_a = refl
 

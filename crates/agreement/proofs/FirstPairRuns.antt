@@ -3,7 +3,7 @@
 use Prim.Native.Nat.{ℕ}
 use mathlib.Core.Path.{◌≡◌, refl}
 use mathlib.Core.List.{List, [], ◌∷◌, ◌++◌}
-use mathlib.Core.Option.{Option, some}
+use Rattle.std.specs.Prelude.{Option, Some}
 use lib.ListN.{length, replicate}
 use Rattle.steps.specs.Steps.{Item, item}
 use Rattle.steps.specs.Batches.{BatchEntry, Batch}
@@ -148,19 +148,19 @@ counted_b = refl
 abbrev pub four : (ℕ → ℕ → Option ℕ) → List (Option ℕ)
 four took = took 0 0 ∷ took 0 1 ∷ took 1 0 ∷ took 1 1 ∷ []
 
-pub values_a : four (value_taken (history_of host_a)) ≡ some 11 ∷ some 12 ∷ some 13 ∷ some 14 ∷ []
+pub values_a : four (value_taken (history_of host_a)) ≡ Some 11 ∷ Some 12 ∷ Some 13 ∷ Some 14 ∷ []
 unfolding opened table host_a
 values_a = refl
 
-pub values_b : four (value_taken (history_of host_b)) ≡ some 11 ∷ some 12 ∷ some 13 ∷ some 14 ∷ []
+pub values_b : four (value_taken (history_of host_b)) ≡ Some 11 ∷ Some 12 ∷ Some 13 ∷ Some 14 ∷ []
 unfolding opened table host_b
 values_b = refl
 
-pub decisions_a : four (decision_taken (history_of host_a)) ≡ some 1 ∷ some 1 ∷ some 1 ∷ some 1 ∷ []
+pub decisions_a : four (decision_taken (history_of host_a)) ≡ Some 1 ∷ Some 1 ∷ Some 1 ∷ Some 1 ∷ []
 unfolding opened table host_a
 decisions_a = refl
 
-pub decisions_b : four (decision_taken (history_of host_b)) ≡ some 1 ∷ some 1 ∷ some 1 ∷ some 1 ∷ []
+pub decisions_b : four (decision_taken (history_of host_b)) ≡ Some 1 ∷ Some 1 ∷ Some 1 ∷ Some 1 ∷ []
 unfolding opened table host_b
 decisions_b = refl
 

@@ -5,7 +5,7 @@ use native.Mathlib.Omega.{arith}
 use mathlib.Core.Path.{◌≡◌, refl, sym, ap, ◌∙◌, subst₂, fun_ext}
 use mathlib.Core.List.{List, [], ◌∷◌, ◌++◌}
 use mathlib.Core.Bool.{Bool, true, false, cond}
-use mathlib.Core.Option.{Option, none}
+use Rattle.std.specs.Prelude.{Option, None}
 use lib.Dec.{eqb, ltb}
 use lib.ListN.{length, set}
 use borrow.Author.Tests.{eqb-true, eqb-false, ltb-true}
@@ -91,7 +91,7 @@ counted_same : (net : NetworkInfo) (strategy : SubsetHandlingStrategy) (encrypte
 counted_same net strategy encrypted v d ws = record { v' = v; d' = d; value = λ q. refl; decision = λ q. refl; eights = λ q l. refl }
 
 -- nothing more was taken
-still : (t : ℕ → Option ℕ) → t ≡ (λ q. or_else (t q) none)
+still : (t : ℕ → Option ℕ) → t ≡ (λ q. or_else (t q) None)
 still t = fun_ext (λ q. sym (or_else_none (t q)))
 
 module _ (w₀ : List ℕ) (network : Network (net_of w₀)) where
@@ -195,7 +195,7 @@ module _ (w₀ : List ℕ) (network : Network (net_of w₀)) where
     where
       go : (b : Bool) → eqb x.epoch e ≡ b
           → eights_of net strategy (encrypted e) (vs e) (ds e) q + cond b (times_asked 8 q x.answers) 0
-          ≡ eights_of net strategy (encrypted e) (λ i. or_else (vs e i) (cond b (first_taken of_value i x.answers) none)) (λ i. or_else (ds e i) (cond b (first_taken of_decision i x.answers) none)) q
+          ≡ eights_of net strategy (encrypted e) (λ i. or_else (vs e i) (cond b (first_taken of_value i x.answers) None)) (λ i. or_else (ds e i) (cond b (first_taken of_decision i x.answers) None)) q
       go true z =
           let k : CountedIn vs ds e x.answers [] = rw (eqb-true x.epoch e z) at c in
           k.eights q l

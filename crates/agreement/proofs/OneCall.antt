@@ -5,7 +5,7 @@ use native.Mathlib.Omega.{arith}
 use mathlib.Core.Path.{◌≡◌, refl, sym, ap, ◌∙◌}
 use mathlib.Core.List.{List, [], ◌∷◌, ◌++◌, append_assoc}
 use mathlib.Core.Bool.{Bool, true, false, cond, ◌&&◌, not, false≢true}
-use mathlib.Core.Option.{Option, none}
+use Rattle.std.specs.Prelude.{Option, None}
 use lib.Dec.{eqb, leb, ltb}
 use lib.ListN.{length, get_or, set, length-set, length-replicate}
 use borrow.Author.Tests.{eqb-true, eq-eqb, ltb-true, ltb-false, le-leb, lt-leb}
@@ -305,15 +305,15 @@ module _ (Holds : NetworkInfo → SubsetHandlingStrategy → Bool → List ℕ �
   proposed_in : (w : List ℕ) (cur : ℕ) (vs ds ts : Tk) (p : Tape) → SimOf w cur vs ds ts → Good (nodes w₀) p.rest
       → Alive (epoch_words w cur) → Holds net strategy (encrypted cur) (epoch_words w cur) (vs cur) (ds cur) (ts cur)
       → Gives (onward (inside (with_epoch w cur) (propose_in_epoch net strategy (encrypted cur) (epoch_words w cur) p)) (λ _ w q. output_batches w q))
-      (λ _ v q l. Moved cur vs ds ts cur none (is_validator net) p.rest v q.rest l)
+      (λ _ v q l. Moved cur vs ds ts cur None (is_validator net) p.rest v q.rest l)
   unfolding net_of
   proposed_in w cur vs ds ts p h g there k =
-      spoken w cur vs ds ts cur none (is_validator net) p.rest (propose_in_epoch net strategy (encrypted cur) (epoch_words w cur) p) (omega arith) (omega arith) h
+      spoken w cur vs ds ts cur None (is_validator net) p.rest (propose_in_epoch net strategy (encrypted cur) (epoch_words w cur) p) (omega arith) (omega arith) h
       (laws.proposed net strategy (encrypted cur) (epoch_words w cur) (vs cur) (ds cur) (ts cur) p network k g)
       (alive_propose net strategy (encrypted cur) (epoch_words w cur) p there) (laws.quiet_proposed net strategy (encrypted cur) (epoch_words w cur) p)
 
   pub proposed_ok : (w : List ℕ) (cur : ℕ) (vs ds ts : Tk) (p : Tape) → SimOf w cur vs ds ts → Good (nodes w₀) p.rest
-      → Gives (propose w p) (λ _ v q l. Moved cur vs ds ts cur none (is_validator net) p.rest v q.rest l)
+      → Gives (propose w p) (λ _ v q l. Moved cur vs ds ts cur None (is_validator net) p.rest v q.rest l)
   unfolding propose in_epoch outputs faults fives_among
   proposed_ok w cur vs ds ts p h g =
       gives_cond (is_validator (net_of w)) _ _ _
@@ -323,8 +323,8 @@ module _ (Holds : NetworkInfo → SubsetHandlingStrategy → Bool → List ℕ �
       rw (b.sim.current, net_same Holds w₀ v cur vs ds ts b.sim, strategy_same Holds w₀ v cur vs ds ts b.sim, encrypted_same Holds w₀ v cur vs ds ts b.sim cur)
       (gives_map (onward (inside (with_epoch v cur) (propose_in_epoch net strategy (encrypted cur) (epoch_words v cur) q)) (λ _ w q. output_batches w q)) _ _
       (proposed_in v cur vs ds ts q b.sim b.good b.there b.holds) (λ _ u z m k.
-      moved_on cur vs ds ts cur none (is_validator net) p.rest v q.rest l u z.rest m b k))))))
-      (λ o. rw (sym (ap is_validator (net_same Holds w₀ w cur vs ds ts h)) ∙ o) (unmoved w cur vs ds ts cur none p.rest [] h refl refl))
+      moved_on cur vs ds ts cur None (is_validator net) p.rest v q.rest l u z.rest m b k))))))
+      (λ o. rw (sym (ap is_validator (net_same Holds w₀ w cur vs ds ts h)) ∙ o) (unmoved w cur vs ds ts cur None p.rest [] h refl refl))
 
   -- MESSAGE
   module _ (sender e proposer : ℕ) (content : MessageContent) (sent : sender < nodes w₀) (named : proposer < nodes w₀) where

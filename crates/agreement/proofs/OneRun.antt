@@ -5,7 +5,7 @@ use native.Mathlib.Omega.{arith}
 use mathlib.Core.Path.{◌≡◌, refl, sym, ap, ◌∙◌, subst₂, subst₃, fun_ext}
 use mathlib.Core.List.{List, [], ◌∷◌, ◌++◌, append-nil}
 use mathlib.Core.Bool.{Bool, true, false, cond, not}
-use mathlib.Core.Option.{Option, none, some}
+use Rattle.std.specs.Prelude.{Option, None, Some}
 use lib.Dec.{eqb, leb, ltb}
 use lib.ListN.{length, set}
 use borrow.Author.Tests.{eqb-true, eqb-false, ltb-true, leb-true, leb-false}
@@ -42,20 +42,20 @@ use Rattle.agreement.proofs.ReplyZero.{propose_passes, message_passes, other_lea
 
 -- WHAT ONE EVENT ADDS to what was taken
 abbrev pub new_v : Tk → Event → Tk
-new_v vs x i q = or_else (vs i q) (cond (eqb x.epoch i) (first_taken of_value q x.answers) none)
+new_v vs x i q = or_else (vs i q) (cond (eqb x.epoch i) (first_taken of_value q x.answers) None)
 
 abbrev pub new_d : Tk → Event → Tk
-new_d ds x i q = or_else (ds i q) (cond (eqb x.epoch i) (first_taken of_decision q x.answers) none)
+new_d ds x i q = or_else (ds i q) (cond (eqb x.epoch i) (first_taken of_decision q x.answers) None)
 
 abbrev pub new_t : Tk → Event → Tk
-new_t ts x i q = or_else (ts i q) (cond (eqb x.epoch i) (first_decrypted q x.share_of x.answers) none)
+new_t ts x i q = or_else (ts i q) (cond (eqb x.epoch i) (first_decrypted q x.share_of x.answers) None)
 
 -- after the whole chain, what is known is what was known before it, or what it told
-all_told : (k : ℕ → Option ℕ) (e : ℕ) (t t' : Tk) → ((q : ℕ) → or_else (t e q) (k q) ≡ or_else (t' e q) none) → ((i : ℕ) → eqb e i ≡ false → t' i ≡ t i)
-    → t' ≡ (λ i q. or_else (t i q) (cond (eqb e i) (k q) none))
+all_told : (k : ℕ → Option ℕ) (e : ℕ) (t t' : Tk) → ((q : ℕ) → or_else (t e q) (k q) ≡ or_else (t' e q) None) → ((i : ℕ) → eqb e i ≡ false → t' i ≡ t i)
+    → t' ≡ (λ i q. or_else (t i q) (cond (eqb e i) (k q) None))
 all_told k e t t' a b = fun_ext (λ i. fun_ext (λ q. go i q (eqb e i) refl))
   where
-    go : (i q : ℕ) (z : Bool) → eqb e i ≡ z → t' i q ≡ or_else (t i q) (cond z (k q) none)
+    go : (i q : ℕ) (z : Bool) → eqb e i ≡ z → t' i q ≡ or_else (t i q) (cond z (k q) None)
     go i q true z = rw (← eqb-true e i z) (sym (a q ∙ or_else_none (t' e q)))
     go i q false z = ap (λ (f : ℕ → Option ℕ). f q) (b i z) ∙ sym (or_else_none (t i q))
 
@@ -64,13 +64,13 @@ abbrev pub upto : (List Event → ℕ → ℕ → Option ℕ) → Tk → List Ev
 upto k t h e q = or_else (t e q) (k h e q)
 
 pub upto_taken : (is : ℕ → Bool) (t : Tk) (x : Event) (h : List Event)
-    → upto (taken is) (λ i q. or_else (t i q) (cond (eqb x.epoch i) (first_taken is q x.answers) none)) h ≡ upto (taken is) t (x ∷ h)
+    → upto (taken is) (λ i q. or_else (t i q) (cond (eqb x.epoch i) (first_taken is q x.answers) None)) h ≡ upto (taken is) t (x ∷ h)
 unfolding taken
-upto_taken is t x h = fun_ext (λ i. fun_ext (λ q. or_else_assoc (t i q) (cond (eqb x.epoch i) (first_taken is q x.answers) none) (taken is h i q)))
+upto_taken is t x h = fun_ext (λ i. fun_ext (λ q. or_else_assoc (t i q) (cond (eqb x.epoch i) (first_taken is q x.answers) None) (taken is h i q)))
 
 upto_decrypted : (t : Tk) (x : Event) (h : List Event) → upto decrypted (new_t t x) h ≡ upto decrypted t (x ∷ h)
 unfolding decrypted
-upto_decrypted t x h = fun_ext (λ i. fun_ext (λ q. or_else_assoc (t i q) (cond (eqb x.epoch i) (first_decrypted q x.share_of x.answers) none) (decrypted h i q)))
+upto_decrypted t x h = fun_ext (λ i. fun_ext (λ q. or_else_assoc (t i q) (cond (eqb x.epoch i) (first_decrypted q x.share_of x.answers) None) (decrypted h i q)))
 
 -- the votes of every event, where vs and ds were taken before; `far` is the look-ahead
 unfoldable pub AllVoted : NetworkInfo → ℕ → Tk → Tk → List Event → Type 0
@@ -100,7 +100,7 @@ hand_later n f encrypted vs ds ts vs' ds' ts' gv gd gt b rs h =
 
 -- the proposer that a 12 concerns at a message's begin
 share_is : (n content proposer item : ℕ) → content_ok n content proposer ≡ true
-    → share_of proposer (content_of content item) ≡ cond (eqb content 3) (some proposer) none
+    → share_of proposer (content_of content item) ≡ cond (eqb content 3) (Some proposer) None
 unfolding content_ok content_of share_of
 share_is n content proposer item ok = by (eqb content 1) refl (eqb content 2) refl (eqb content 3) refl
   where
@@ -114,7 +114,7 @@ share_is n content proposer item ok = by (eqb content 1) refl (eqb content 2) re
     high = leb-true content 3 (and-true (leb 1 content) (leb content 3) range).1
 
     by : (a : Bool) → eqb content 1 ≡ a → (b : Bool) → eqb content 2 ≡ b → (c : Bool) → eqb content 3 ≡ c
-        → share_of proposer (cond a (Subset Broadcast) (cond b (Subset Agreement) (DecryptionShare item))) ≡ cond c (some proposer) none
+        → share_of proposer (cond a (Subset Broadcast) (cond b (Subset Agreement) (DecryptionShare item))) ≡ cond c (Some proposer) None
     by true i b j true k = absurd (omega (arith, eqb-true content 1 i, eqb-true content 3 k))
     by true i b j false k = refl
     by false i true j true k = absurd (omega (arith, eqb-true content 2 j, eqb-true content 3 k))
@@ -175,7 +175,7 @@ module _ (Holds : NetworkInfo → SubsetHandlingStrategy → Bool → List ℕ �
       }
 
   pub proposed : (w : List ℕ) (cur : ℕ) (vs ds ts : Tk) → SimOf w cur vs ds ts → (scratch answers step : List ℕ) → (propose_call w scratch answers step).reply ≡ 0
-      → Stepped cur vs ds ts (event cur false cur none answers (propose_call w scratch answers step).step) (propose_call w scratch answers step).state
+      → Stepped cur vs ds ts (event cur false cur None answers (propose_call w scratch answers step).step) (propose_call w scratch answers step).state
   unfolding speaks
   proposed w cur vs ds ts h scratch answers step e =
       let p = propose_passes w scratch answers step e in
@@ -183,13 +183,13 @@ module _ (Holds : NetworkInfo → SubsetHandlingStrategy → Bool → List ℕ �
       let good : Good (nodes w₀) (tape_of answers).rest = rw h.shaped.nodes at (table_good (nodes w) answers p.1) in
       let m = gives_out run _ tt (proposed_ok Holds laws w₀ network w cur vs ds ts (tape_of answers) h good) p.2.goes in
       rw p.2.state
-      (stepped cur vs ds ts (event cur false cur none answers (propose_call w scratch answers step).step) run.state run.log (rw p.2.rest at m)
+      (stepped cur vs ds ts (event cur false cur None answers (propose_call w scratch answers step).step) run.state run.log (rw p.2.rest at m)
       (ap batches_of p.2.written ∙ batches_read step run.log (current_epoch w))
       (ap fives_of p.2.written ∙ fives_read step run.log (current_epoch w)))
 
   pub handled : (w : List ℕ) (cur : ℕ) (vs ds ts : Tk) → SimOf w cur vs ds ts → (sender epoch content proposer item : ℕ) (scratch answers step : List ℕ)
       → (message_call w scratch answers step sender epoch content proposer item).reply ≡ 0
-      → Stepped cur vs ds ts (event cur true epoch (cond (eqb content 3) (some proposer) none) answers (message_call w scratch answers step sender epoch content proposer item).step)
+      → Stepped cur vs ds ts (event cur true epoch (cond (eqb content 3) (Some proposer) None) answers (message_call w scratch answers step sender epoch content proposer item).step)
       (message_call w scratch answers step sender epoch content proposer item).state
   unfolding speaks
   handled w cur vs ds ts h sender epoch content proposer item scratch answers step e =
@@ -202,7 +202,7 @@ module _ (Holds : NetworkInfo → SubsetHandlingStrategy → Bool → List ℕ �
       let below : proposer < nodes w₀ = rw same at (named_below (nodes w) content proposer p.3) in
       let m = gives_out run _ tt (handled_ok Holds laws w₀ network sender epoch proposer c sent below w cur vs ds ts (tape_of answers) h good) p.4.goes in
       rw p.4.state
-      (stepped cur vs ds ts (event cur true epoch (cond (eqb content 3) (some proposer) none) answers (message_call w scratch answers step sender epoch content proposer item).step) run.state run.log
+      (stepped cur vs ds ts (event cur true epoch (cond (eqb content 3) (Some proposer) None) answers (message_call w scratch answers step sender epoch content proposer item).step) run.state run.log
       (rw (p.4.rest, share_is (nodes w) content proposer item p.3) at m)
       (ap batches_of p.4.written ∙ batches_read step run.log epoch)
       (ap fives_of p.4.written ∙ fives_read step run.log epoch))
@@ -272,7 +272,7 @@ module _ (Holds : NetworkInfo → SubsetHandlingStrategy → Bool → List ℕ �
     voted = tt;
   }
     where
-      still : (t : Tk) → t ≡ (λ i q. or_else (t i q) none)
+      still : (t : Tk) → t ≡ (λ i q. or_else (t i q) None)
       still t = fun_ext (λ i. fun_ext (λ q. sym (or_else_none (t i q))))
 
   ran_event : (cur : ℕ) (vs ds ts : Tk) (x : Event) (w w' : List ℕ) (h : List Event) → Stepped cur vs ds ts x w → Ran (new_v vs x) (new_d ds x) (new_t ts x) h w' → Ran vs ds ts (x ∷ h) w'

@@ -7,7 +7,7 @@ use Prim.Native.Nat.{ℕ, ◌+◌, max}
 use mathlib.Core.Path.{◌≡◌, refl}
 use mathlib.Core.List.{List, [], ◌∷◌, ◌++◌}
 use mathlib.Core.Bool.{Bool, true, false}
-use mathlib.Core.Option.{Option, none, some}
+use Rattle.std.specs.Prelude.{Option, None, Some}
 use lib.ListN.{length, replicate}
 use Rattle.steps.specs.Steps.{Item, item, link_after}
 use Rattle.steps.specs.Answers.{Rec}
@@ -75,18 +75,18 @@ line call is_message epoch share_of xs o =
 
 -- a propose, which must be for this epoch
 abbrev proposing : ℕ → List Item → Outcome → Line
-proposing epoch xs o = line (propose (replicate (scratch_length 4 1) 9) (table xs) (replicate 64 9)) false epoch none xs o
+proposing epoch xs o = line (propose (replicate (scratch_length 4 1) 9) (table xs) (replicate 64 9)) false epoch None xs o
 
 -- messages, each by its sender, its epoch and the proposer that it is about: of the broadcast, of the agreement, and a decryption share
 abbrev hearing : ℕ → ℕ → ℕ → List Item → Outcome → Line
-hearing sender epoch p xs o = line (message sender epoch 1 p 0 (replicate (scratch_length 4 1) 9) (table xs) (replicate 64 9)) true epoch none xs o
+hearing sender epoch p xs o = line (message sender epoch 1 p 0 (replicate (scratch_length 4 1) 9) (table xs) (replicate 64 9)) true epoch None xs o
 
 abbrev agreeing : ℕ → ℕ → ℕ → List Item → Outcome → Line
-agreeing sender epoch p xs o = line (message sender epoch 2 p 0 (replicate (scratch_length 4 1) 9) (table xs) (replicate 64 9)) true epoch none xs o
+agreeing sender epoch p xs o = line (message sender epoch 2 p 0 (replicate (scratch_length 4 1) 9) (table xs) (replicate 64 9)) true epoch None xs o
 
 abbrev sharing : ℕ → ℕ → ℕ → ℕ → List Item → Outcome → Line
 sharing sender epoch p share xs o =
-    line (message sender epoch 3 p share (replicate (scratch_length 4 1) 9) (table xs) (replicate 64 9)) true epoch (some p) xs o
+    line (message sender epoch 3 p share (replicate (scratch_length 4 1) 9) (table xs) (replicate 64 9)) true epoch (Some p) xs o
 
 abbrev skipping : ℕ → Line
 skipping target = record { call = skip target; events = λ current. []; current = λ current. max current target }
@@ -226,33 +226,33 @@ abbrev three : (ℕ → ℕ → Option ℕ) → List (List (Option ℕ))
 three took = in_epoch (took 1) ∷ in_epoch (took 2) ∷ in_epoch (took 3) ∷ []
 
 pub values_c : three (value_taken (events_of 1 lines_c))
-    ≡ (some 10 ∷ some 11 ∷ some 12 ∷ none ∷ [])
-    ∷ (some 20 ∷ some 21 ∷ none ∷ some 21 ∷ [])
-    ∷ (none ∷ none ∷ none ∷ none ∷ [])
+    ≡ (Some 10 ∷ Some 11 ∷ Some 12 ∷ None ∷ [])
+    ∷ (Some 20 ∷ Some 21 ∷ None ∷ Some 21 ∷ [])
+    ∷ (None ∷ None ∷ None ∷ None ∷ [])
     ∷ []
 unfolding opened told events_of lines_c host_c
 values_c = refl
 
 pub values_d : three (value_taken (events_of 0 lines_d))
-    ≡ (some 10 ∷ none ∷ none ∷ none ∷ [])
-    ∷ (some 20 ∷ some 21 ∷ none ∷ some 21 ∷ [])
-    ∷ (some 30 ∷ none ∷ some 32 ∷ some 33 ∷ [])
+    ≡ (Some 10 ∷ None ∷ None ∷ None ∷ [])
+    ∷ (Some 20 ∷ Some 21 ∷ None ∷ Some 21 ∷ [])
+    ∷ (Some 30 ∷ None ∷ Some 32 ∷ Some 33 ∷ [])
     ∷ []
 unfolding opened told events_of lines_d host_d
 values_d = refl
 
 pub decisions_c : three (decision_taken (events_of 1 lines_c))
-    ≡ (some 1 ∷ some 1 ∷ some 1 ∷ some 0 ∷ [])
-    ∷ (some 1 ∷ some 1 ∷ some 0 ∷ some 1 ∷ [])
-    ∷ (none ∷ none ∷ none ∷ none ∷ [])
+    ≡ (Some 1 ∷ Some 1 ∷ Some 1 ∷ Some 0 ∷ [])
+    ∷ (Some 1 ∷ Some 1 ∷ Some 0 ∷ Some 1 ∷ [])
+    ∷ (None ∷ None ∷ None ∷ None ∷ [])
     ∷ []
 unfolding opened told events_of lines_c host_c
 decisions_c = refl
 
 pub decisions_d : three (decision_taken (events_of 0 lines_d))
-    ≡ (some 1 ∷ none ∷ none ∷ none ∷ [])
-    ∷ (some 1 ∷ some 1 ∷ some 0 ∷ some 1 ∷ [])
-    ∷ (some 1 ∷ some 0 ∷ some 1 ∷ some 1 ∷ [])
+    ≡ (Some 1 ∷ None ∷ None ∷ None ∷ [])
+    ∷ (Some 1 ∷ Some 1 ∷ Some 0 ∷ Some 1 ∷ [])
+    ∷ (Some 1 ∷ Some 0 ∷ Some 1 ∷ Some 1 ∷ [])
     ∷ []
 unfolding opened told events_of lines_d host_d
 decisions_d = refl

@@ -6,7 +6,7 @@ use mathlib.Core.Logic.{◌⊎◌, inl, inr}
 use mathlib.Core.List.Memᴰ
 use mathlib.Core.List.{List, [], ◌∷◌, Memᴰ}
 use mathlib.Core.Bool.{Bool, true, false, cond, ◌&&◌, false≢true}
-use mathlib.Core.Option.{Option, none, some}
+use Rattle.std.specs.Prelude.{Option, None, Some}
 use native.Mathlib.Omega.{arith}
 use lib.Dec.{eqb, leb, ltb}
 use lib.ListN.{length}
@@ -55,8 +55,8 @@ none_fails_lem (t ∷ ts) h = rw (left _ _ h, none_fails_lem ts (right _ _ h))
 
 -- WHAT WAS TAKEN. An answer has no output, or this one
 unfoldable pub is_or : Option ℕ → ℕ → Bool
-is_or none y = true
-is_or (some x) y = eqb x y
+is_or None y = true
+is_or (Some x) y = eqb x y
 
 -- the answers of the kinds asked have no output, or the one that g says for their proposer
 unfoldable pub says_in : (ℕ → Bool) → (ℕ → ℕ) → List Rec → Bool
@@ -68,31 +68,31 @@ unfoldable pub says : (ℕ → Bool) → (ℕ → ℕ → ℕ) → List Event �
 says is g [] = true
 says is g (x ∷ xs) = both (says_in is (g x.epoch) x.answers) (says is g xs)
 
-first_says : (is : ℕ → Bool) (g : ℕ → ℕ) (p : ℕ) (rs : List Rec) → says_in is g rs ≡ true → (x : ℕ) → first_taken is p rs ≡ some x → x ≡ g p
+first_says : (is : ℕ → Bool) (g : ℕ → ℕ) (p : ℕ) (rs : List Rec) → says_in is g rs ≡ true → (x : ℕ) → first_taken is p rs ≡ Some x → x ≡ g p
 unfolding is_or says_in or_else first_taken
 first_says is g p [] h x k = let z : ◌≡◌ {A = ℕ} 0 1 = cc in absurd (omega arith)
 first_says is g p (r ∷ rs) h x k =
     go (is r.kind) (eqb r.b p) (last_output_in rs) refl (left _ _ h) (first_says is g p rs (right _ _ h) x) k
   where
-    go : (s t : Bool) (o : Option ℕ) → eqb r.b p ≡ t → cond s (is_or o (g r.b)) true ≡ true → (first_taken is p rs ≡ some x → x ≡ g p)
-        → or_else (cond (s && t) o none) (first_taken is p rs) ≡ some x → x ≡ g p
-    go true true none e a ih k = ih k
-    go true true (some y) e a ih k = cc (eqb-true y (g r.b) a, eqb-true r.b p e)
+    go : (s t : Bool) (o : Option ℕ) → eqb r.b p ≡ t → cond s (is_or o (g r.b)) true ≡ true → (first_taken is p rs ≡ Some x → x ≡ g p)
+        → or_else (cond (s && t) o None) (first_taken is p rs) ≡ Some x → x ≡ g p
+    go true true None e a ih k = ih k
+    go true true (Some y) e a ih k = cc (eqb-true y (g r.b) a, eqb-true r.b p e)
     go true false o e a ih k = ih k
     go false t o e a ih k = ih k
 
 -- LEMMA 1: what was taken is what g says
-taken_says : (is : ℕ → Bool) (g : ℕ → ℕ → ℕ) (h : List Event) → says is g h ≡ true → (e p x : ℕ) → taken is h e p ≡ some x → x ≡ g e p
+taken_says : (is : ℕ → Bool) (g : ℕ → ℕ → ℕ) (h : List Event) → says is g h ≡ true → (e p x : ℕ) → taken is h e p ≡ Some x → x ≡ g e p
 unfolding says or_else taken
 taken_says is g [] a e p x k = let z : ◌≡◌ {A = ℕ} 0 1 = cc in absurd (omega arith)
 taken_says is g (y ∷ ys) a e p x k =
     go (eqb y.epoch e) (first_taken is p y.answers) refl (first_says is (g y.epoch) p y.answers (left _ _ a) x)
     (taken_says is g ys (right _ _ a) e p x) k
   where
-    go : (t : Bool) (o : Option ℕ) → eqb y.epoch e ≡ t → (o ≡ some x → x ≡ g y.epoch p) → (taken is ys e p ≡ some x → x ≡ g e p)
-        → or_else (cond t o none) (taken is ys e p) ≡ some x → x ≡ g e p
-    go true none t now later k = later k
-    go true (some z) t now later k = rw (← eqb-true y.epoch e t) (now k)
+    go : (t : Bool) (o : Option ℕ) → eqb y.epoch e ≡ t → (o ≡ Some x → x ≡ g y.epoch p) → (taken is ys e p ≡ Some x → x ≡ g e p)
+        → or_else (cond t o None) (taken is ys e p) ≡ Some x → x ≡ g e p
+    go true None t now later k = later k
+    go true (Some z) t now later k = rw (← eqb-true y.epoch e t) (now k)
     go false o t now later k = later k
 
 -- so two histories that are as one g says took alike

@@ -6,7 +6,7 @@ use mathlib.Core.Logic.{◌⊎◌, inl, inr}
 use mathlib.Core.List.Memᴰ
 use mathlib.Core.List.{List, [], ◌∷◌, ◌++◌, Memᴰ}
 use mathlib.Core.Bool.{Bool, true, false, cond, ◌&&◌, false≢true}
-use mathlib.Core.Option.{Option, none, some}
+use Rattle.std.specs.Prelude.{Option, None, Some}
 use lib.Dec.{eqb}
 use lib.ListN.{length}
 use borrow.Author.Tests.{eqb-true}
@@ -23,32 +23,32 @@ use Rattle.agreement.proofs.BatchesDealt.{InAll, there, is_true_lem, names_same,
 abbrev reading : ℕ → ℕ → ℕ → ℕ → Reading
 reading kind subject a b = record { kind = kind; subject = subject; a = a; b = b }
 
-some_of : (o u : Option ℕ) (x : ℕ) → or_else o u ≡ some x → (o ≡ some x) ⊎ (u ≡ some x)
+some_of : (o u : Option ℕ) (x : ℕ) → or_else o u ≡ Some x → (o ≡ Some x) ⊎ (u ≡ Some x)
 unfolding or_else
-some_of none u x e = inr e
-some_of (some y) u x e = inl e
+some_of None u x e = inr e
+some_of (Some y) u x e = inl e
 
-concerned : (who : Option ℕ) (p : ℕ) → concerns who p ≡ true → who ≡ some p
+concerned : (who : Option ℕ) (p : ℕ) → concerns who p ≡ true → who ≡ Some p
 unfolding concerns
-concerned none p e = absurd (false≢true e)
-concerned (some q) p e = ap some (eqb-true q p e)
+concerned None p e = absurd (false≢true e)
+concerned (Some q) p e = ap Some (eqb-true q p e)
 
-none_some : {A : Type 0} (x : ℕ) → none ≡ some x → A
+none_some : {A : Type 0} (x : ℕ) → None ≡ Some x → A
 none_some x e = let z : ◌≡◌ {A = ℕ} 0 1 = cc in absurd (omega arith)
 
 -- a 12 that gave a plaintext
-module _ (value : ℕ → Option ℕ) (p v : ℕ) (is : value p ≡ some v) where
-  at_12 : (who : Option ℕ) (r : Rec) → r.kind ≡ 12 → who ≡ some p → readings_at value who r ≡ reading 12 v r.a r.b ∷ []
+module _ (value : ℕ → Option ℕ) (p v : ℕ) (is : value p ≡ Some v) where
+  at_12 : (who : Option ℕ) (r : Rec) → r.kind ≡ 12 → who ≡ Some p → readings_at value who r ≡ reading 12 v r.a r.b ∷ []
   unfolding readings_at reading_of value_concerned
   at_12 who r ek ew = rw (ek, ew, is)
 
-  found_in : (who : Option ℕ) (rs : List Rec) (x : ℕ) → first_decrypted p who rs ≡ some x → (a : ℕ) × Memᴰ (reading 12 v a x) (readings_in value who rs)
+  found_in : (who : Option ℕ) (rs : List Rec) (x : ℕ) → first_decrypted p who rs ≡ Some x → (a : ℕ) × Memᴰ (reading 12 v a x) (readings_in value who rs)
   unfolding first_decrypted readings_in or_else
   found_in who [] x e = none_some x e
   found_in who (r ∷ rs) x e = go (eqb r.kind 12 && concerns who p) refl e (found_in (concerned_after who r) rs x)
     where
-      go : (t : Bool) → eqb r.kind 12 && concerns who p ≡ t → or_else (cond t (some r.b) none) (first_decrypted p (concerned_after who r) rs) ≡ some x
-          → (first_decrypted p (concerned_after who r) rs ≡ some x → (a : ℕ) × Memᴰ (reading 12 v a x) (readings_in value (concerned_after who r) rs))
+      go : (t : Bool) → eqb r.kind 12 && concerns who p ≡ t → or_else (cond t (Some r.b) None) (first_decrypted p (concerned_after who r) rs) ≡ Some x
+          → (first_decrypted p (concerned_after who r) rs ≡ Some x → (a : ℕ) × Memᴰ (reading 12 v a x) (readings_in value (concerned_after who r) rs))
           → (a : ℕ) × Memᴰ (reading 12 v a x) (readings_at value who r ++ readings_in value (concerned_after who r) rs)
       go true t e ih =
           let h = and-true (eqb r.kind 12) (concerns who p) t in
@@ -56,17 +56,17 @@ module _ (value : ℕ → Option ℕ) (p v : ℕ) (is : value p ≡ some v) wher
           (r.a, rw (at_12 who r (eqb-true r.kind 12 h.0) (concerned who p h.1), z) (Memᴰ.head refl))
       go false t e ih = let y = ih e in (y.0, Memᴰ.append_right (readings_at value who r) y.1)
 
-found_12 : (whole h : List Event) (e p v x : ℕ) → value_taken whole e p ≡ some v → decrypted h e p ≡ some x → (a : ℕ) × Memᴰ (reading 12 v a x) (readings_of_calls whole h)
+found_12 : (whole h : List Event) (e p v x : ℕ) → value_taken whole e p ≡ Some v → decrypted h e p ≡ Some x → (a : ℕ) × Memᴰ (reading 12 v a x) (readings_of_calls whole h)
 unfolding decrypted readings_of_calls or_else
 found_12 whole [] e p v x is k = none_some x k
 found_12 whole (y ∷ ys) e p v x is k = go (eqb y.epoch e) refl k (found_12 whole ys e p v x is)
   where
-    go : (t : Bool) → eqb y.epoch e ≡ t → or_else (cond t (first_decrypted p y.share_of y.answers) none) (decrypted ys e p) ≡ some x
-        → (decrypted ys e p ≡ some x → (a : ℕ) × Memᴰ (reading 12 v a x) (readings_of_calls whole ys))
+    go : (t : Bool) → eqb y.epoch e ≡ t → or_else (cond t (first_decrypted p y.share_of y.answers) None) (decrypted ys e p) ≡ Some x
+        → (decrypted ys e p ≡ Some x → (a : ℕ) × Memᴰ (reading 12 v a x) (readings_of_calls whole ys))
         → (a : ℕ) × Memᴰ (reading 12 v a x) (readings_in (value_taken whole y.epoch) y.share_of y.answers ++ readings_of_calls whole ys)
     go true t k ih = by (some_of (first_decrypted p y.share_of y.answers) (decrypted ys e p) x k)
       where
-        by : (first_decrypted p y.share_of y.answers ≡ some x) ⊎ (decrypted ys e p ≡ some x)
+        by : (first_decrypted p y.share_of y.answers ≡ Some x) ⊎ (decrypted ys e p ≡ Some x)
             → (a : ℕ) × Memᴰ (reading 12 v a x) (readings_in (value_taken whole y.epoch) y.share_of y.answers ++ readings_of_calls whole ys)
         by (inl i) =
             let z = found_in (value_taken whole y.epoch) p v (rw (eqb-true y.epoch e t) is) y.share_of y.answers x i in
@@ -75,11 +75,11 @@ found_12 whole (y ∷ ys) e p v x is k = go (eqb y.epoch e) refl k (found_12 who
     go false t k ih = let z = ih k in (z.0, Memᴰ.append_right (readings_in (value_taken whole y.epoch) y.share_of y.answers) z.1)
 
 -- a 13 of a batch
-at_13 : (text : ℕ → Option ℕ) (r y : Rec) (s : ℕ) → r ≡ y → text r.b ≡ some s → reading_of 13 (text y.b) y ≡ reading 13 s r.a r.b ∷ []
+at_13 : (text : ℕ → Option ℕ) (r y : Rec) (s : ℕ) → r ≡ y → text r.b ≡ Some s → reading_of 13 (text y.b) y ≡ reading 13 s r.a r.b ∷ []
 unfolding reading_of
 at_13 text r y s i e = rw (← i, e)
 
-found_13 : (text : ℕ → Option ℕ) (rs : List Rec) (r : Rec) (s : ℕ) → Memᴰ r rs → text r.b ≡ some s → Memᴰ (reading 13 s r.a r.b) (readings_of13 text rs)
+found_13 : (text : ℕ → Option ℕ) (rs : List Rec) (r : Rec) (s : ℕ) → Memᴰ r rs → text r.b ≡ Some s → Memᴰ (reading 13 s r.a r.b) (readings_of13 text rs)
 unfolding readings_of13
 found_13 text [] r s m e = absurd (Memᴰ.not-nil m)
 found_13 text (y ∷ rs) r s m e = go (Memᴰ.cases_cons m) (λ k. found_13 text rs r s k e)
@@ -141,7 +141,7 @@ module _ (n f : ℕ) (encrypted : ℕ → Bool) (h₁ h₂ : List Event) (same :
   decisions q l =
       let a = there (decision_taken h₁ epoch q) (k₁.decided q l) in
       let b = there (decision_taken h₂ y.batch.epoch q) (k₂.decided q l) in
-      a.1 ∙ (ap some (same.decisions epoch q a.0 b.0 a.1 (rw e b.1)) ∙ sym b.1)
+      a.1 ∙ (ap Some (same.decisions epoch q a.0 b.0 a.1 (rw e b.1)) ∙ sym b.1)
 
   names : names_of x.thirteens ≡ names_of y.thirteens
   names =
@@ -161,7 +161,7 @@ module _ (n f : ℕ) (encrypted : ℕ → Bool) (h₁ h₂ : List Event) (same :
       t₂ : is_true (decision_taken h₂ y.batch.epoch q) ≡ true
       t₂ = rw (← decisions q l) t
 
-      go : (c : Bool) → cond c (decrypted h₁ epoch q) (value_taken h₁ epoch q) ≡ some (k₁.text q) → cond c (decrypted h₂ epoch q) (value_taken h₂ epoch q) ≡ some (k₂.text q)
+      go : (c : Bool) → cond c (decrypted h₁ epoch q) (value_taken h₁ epoch q) ≡ Some (k₁.text q) → cond c (decrypted h₂ epoch q) (value_taken h₂ epoch q) ≡ Some (k₂.text q)
           → k₁.text q ≡ k₂.text q
       go true a b =
           let u = there (value_taken h₁ epoch q) (k₁.known q l t) in

@@ -4,7 +4,7 @@ use native.Mathlib.Omega.{arith}
 use mathlib.Core.Path.{◌≡◌, refl, sym, ap, subst, subst₃, fun_ext}
 use mathlib.Core.List.{List}
 use mathlib.Core.Bool.{Bool, true, false, cond}
-use mathlib.Core.Option.{Option, none}
+use Rattle.std.specs.Prelude.{Option, None}
 use lib.Dec.{eqb, leb}
 use borrow.Author.Tests.{eqb-true, eqb-false, eq-eqb, lt-leb}
 use Rattle.network.specs.declared.network_info.NetworkInfo.{NetworkInfo}
@@ -60,7 +60,7 @@ state_is c w e = rw (eq-eqb (create_reply c w) 0 e)
 
 module _ (Holds : NetworkInfo → SubsetHandlingStrategy → Bool → List ℕ → (ℕ → Option ℕ) → (ℕ → Option ℕ) → (ℕ → Option ℕ) → Type 0)
     (laws : EpochLaws Holds) where
-  pub started : (c : Numbers) → Sim Holds (created c) (created c) c.epoch (λ _ _. none) (λ _ _. none) (λ _ _. none)
+  pub started : (c : Numbers) → Sim Holds (created c) (created c) c.epoch (λ _ _. None) (λ _ _. None) (λ _ _. None)
   unfolding created
   started c = record {
     shaped = created_shaped c;
@@ -76,7 +76,7 @@ module _ (Holds : NetworkInfo → SubsetHandlingStrategy → Bool → List ℕ �
       (history m.numbers.epoch (turns (created m.numbers) m.calls))
   unfolding created or_else
   created_dealt m ok fine =
-      run_ok Holds laws (created m.numbers) (network_of m.numbers ok) m.calls (created m.numbers) m.numbers.epoch (λ _ _. none) (λ _ _. none) (λ _ _. none)
+      run_ok Holds laws (created m.numbers) (network_of m.numbers ok) m.calls (created m.numbers) m.numbers.epoch (λ _ _. None) (λ _ _. None) (λ _ _. None)
       (started m.numbers) fine
 
   pub run_dealt : (m : Made) → Sound m → AllDealt (InAll m.numbers.nodes m.numbers.faulty (encrypted_of m) (history_of m)) (history_of m)

@@ -4,7 +4,7 @@ use Prim.Native.Nat.{ℕ}
 use mathlib.Core.Path.{◌≡◌, refl}
 use mathlib.Core.List.{List, [], ◌∷◌, ◌++◌}
 use mathlib.Core.Bool.{Bool, true, false}
-use mathlib.Core.Option.{Option, none}
+use Rattle.std.specs.Prelude.{Option, None}
 use lib.ListN.{replicate}
 use Rattle.steps.specs.Steps.{Item, item}
 use Rattle.steps.specs.Taken.{is_asked, ones_from}
@@ -71,7 +71,7 @@ pub record Row : Type 0 where
   pub decision : Option ℕ
 
 abbrev pub row : Bool → Bool → ℕ → Row
-row votes comes ones = record { votes = votes; comes = comes; ones = ones; decision = none }
+row votes comes ones = record { votes = votes; comes = comes; ones = ones; decision = None }
 
 unfoldable pub row_of : List Event → Event → Row
 row_of h x = record {

@@ -2,7 +2,7 @@
 -- proved as `engine_rule` in proofs/Demand2.antt. And the range rule over every call.
 use Rattle.std.specs.Prelude.{ℕ, ◌+◌, ◌≤◌, ◌<◌, ◌≡◌, ◌≢◌, Bool, true, false, cond, ◌&&◌, not, eqb}
 use mathlib.Core.List.{List, [], ◌∷◌, ◌++◌, Memᴰ}
-use Rattle.std.proofs.Math.Option.{Option, none, some}
+use Rattle.std.specs.Prelude.{Option, None, Some}
 use Rattle.steps.specs.Numbers.{agreement_message, propose_true, propose_false, ciphertext_reads}
 use Rattle.network.specs.declared.network_info.NetworkInfo.{NetworkInfo}
 use Rattle.network.specs.Network.{is_validator, num_correct}
@@ -55,8 +55,8 @@ pub record Votes (net : NetworkInfo) (ahead : ℕ) (h : List Event) (x : Event) 
       ≡ (speaks net ahead x && (eqb (ones_from (decided_before7 h x) net.num_nodes 0) (num_correct net) && not (is_there (decided_before7 h x p))))
   -- "No outside call is made in HasValue for broadcast, in Accepted for agreement, in Complete at all."
   pub broadcasts : (k p : ℕ) → of_value k ≡ true → is_asked k p x.answers ≡ true
-      → (value_taken h x.epoch p ≡ none) × (decision_taken h x.epoch p ≢ some 0)
-  pub agrees : (p : ℕ) → is_asked agreement_message p x.answers ≡ true → decision_taken h x.epoch p ≡ none
+      → (value_taken h x.epoch p ≡ None) × (decision_taken h x.epoch p ≢ Some 0)
+  pub agrees : (p : ℕ) → is_asked agreement_message p x.answers ≡ true → decision_taken h x.epoch p ≡ None
 
 pub record PaperRule (m : Made) : Type 0 where
   pub votes : (h : List Event) (x : Event) (l : List Event) → history_of m ≡ h ++ (x ∷ l) → Votes (net_in m) m.numbers.ahead h x
@@ -72,7 +72,7 @@ pub record PaperRule (m : Made) : Type 0 where
   pub decrypted : (e p : ℕ) → current_epoch (end_of m) ≤ e → e ≤ current_epoch (end_of m) + ahead (end_of m)
       → is_complete (epoch_words (end_of m) e) ≡ true → p < (net_in m).num_nodes
       → plaintext_of (load_decryption (net_in m).num_nodes (epoch_words (end_of m) e) p)
-      ≡ cond (is_true (decision_taken (history_of m) e p)) (plaintext (encrypted_of m) (history_of m) e p) none
+      ≡ cond (is_true (decision_taken (history_of m) e p)) (plaintext (encrypted_of m) (history_of m) e p) None
   -- and for every epoch that was handed out
   pub handed_out : (x : Handed) → Memᴰ x (handed m.numbers.nodes (encrypted_of m) (history_of m))
       → is_over (net_in m) (value_taken (history_of m) x.batch.epoch) (decision_taken (history_of m) x.batch.epoch) ≡ true

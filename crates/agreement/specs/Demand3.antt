@@ -2,7 +2,7 @@
 -- proofs/Demand3.antt. That it is not empty is shown by two worked pairs of runs (proofs/FirstPairClaim.antt, proofs/SecondPairClaim.antt).
 use Rattle.std.specs.Prelude.{ℕ, ◌-◌, ◌+◌, ◌≤◌, ◌<◌, ◌≡◌, ◌⊎◌, Bool, true, length}
 use mathlib.Core.List.{List, [], ◌∷◌, ◌++◌, Memᴰ}
-use Rattle.std.proofs.Math.Option.{Option, some}
+use Rattle.std.specs.Prelude.{Option, Some}
 use Rattle.steps.specs.Numbers.{contribution_decrypted}
 use Rattle.steps.specs.Taken.{thirteens_in}
 use Rattle.state.specs.Schedule.{schedule_of, use_on_epoch}
@@ -13,7 +13,7 @@ use Rattle.agreement.specs.History.{Call, Turn, turns, none_fails, Event, histor
 
 -- where both runs took something for an epoch and a proposer, it is the same
 abbrev pub TookAlike : (ℕ → ℕ → Option ℕ) → (ℕ → ℕ → Option ℕ) → Type 0
-TookAlike took₁ took₂ = (e p x y : ℕ) → took₁ e p ≡ some x → took₂ e p ≡ some y → x ≡ y
+TookAlike took₁ took₂ = (e p x y : ℕ) → took₁ e p ≡ Some x → took₂ e p ≡ Some y → x ≡ y
 
 -- "a value has one answer to 8, 9 and 12, a plaintext one to 13, in both runs, whoever proposed it; the answer is a, for 12 also b"
 abbrev pub ReadAlike : List Reading → Type 0
@@ -25,7 +25,7 @@ ReadAlike rs =
 
 -- the proposers decided true in an epoch
 abbrev pub DecidedTrue : ℕ → List Event → ℕ → ℕ → Type 0
-DecidedTrue n h e p = (p < n) × (decision_taken h e p ≡ some 1)
+DecidedTrue n h e p = (p < n) × (decision_taken h e p ≡ Some 1)
 
 -- each number is k or more and above the one before it, so that none stands twice
 abbrev pub Rising : ℕ → List ℕ → Type 0

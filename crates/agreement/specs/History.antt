@@ -1,6 +1,6 @@
 -- What happened in a run, told from its calls, their chains of answers and their step words alone (document 01, 'Rules to keep').
 use Rattle.std.specs.Prelude.{ℕ, zero, suc, ◌+◌, max, List, [], ◌∷◌, ◌++◌, Bool, true, false, cond, ◌&&◌, length, take, drop, eqb, ltb}
-use Rattle.std.proofs.Math.Option.{Option, none, some}
+use Rattle.std.specs.Prelude.{Option, None, Some}
 use Rattle.steps.specs.Numbers.{share_content, success, ciphertext_reads, ciphertext_verifies, contribution_decrypted, contribution_reads}
 use Rattle.steps.specs.Table.{within}
 use Rattle.steps.specs.Answers.{Rec, tape_of}
@@ -78,9 +78,9 @@ event current is_message epoch share_of answers step =
     }
 
 unfoldable pub events_of : ℕ → Call → List ℕ → List Event
-events_of current (propose scratch answers step₀) step = event current false current none answers step ∷ []
+events_of current (propose scratch answers step₀) step = event current false current None answers step ∷ []
 events_of current (message sender epoch content proposer item scratch answers step₀) step =
-    event current true epoch (cond (eqb content share_content) (some proposer) none) answers step ∷ []
+    event current true epoch (cond (eqb content share_content) (Some proposer) None) answers step ∷ []
 events_of current (skip target) step = []
 
 -- "each batch handed out adds one, each skip raises it to its target if higher"
@@ -97,8 +97,8 @@ history current (t ∷ ts) =
 
 -- WHAT WAS TAKEN: "In an epoch, the value taken for a proposer is […]; the decision is the same of kinds 5 to 7"
 unfoldable pub taken : (ℕ → Bool) → List Event → ℕ → ℕ → Option ℕ
-taken is [] e p = none
-taken is (x ∷ xs) e p = or_else (cond (eqb x.epoch e) (first_taken is p x.answers) none) (taken is xs e p)
+taken is [] e p = None
+taken is (x ∷ xs) e p = or_else (cond (eqb x.epoch e) (first_taken is p x.answers) None) (taken is xs e p)
 
 abbrev pub value_taken : List Event → ℕ → ℕ → Option ℕ
 value_taken h e p = taken of_value h e p
@@ -107,8 +107,8 @@ abbrev pub decision_taken : List Event → ℕ → ℕ → Option ℕ
 decision_taken h e p = taken of_decision h e p
 
 unfoldable pub decrypted : List Event → ℕ → ℕ → Option ℕ
-decrypted [] e p = none
-decrypted (x ∷ xs) e p = or_else (cond (eqb x.epoch e) (first_decrypted p x.share_of x.answers) none) (decrypted xs e p)
+decrypted [] e p = None
+decrypted (x ∷ xs) e p = or_else (cond (eqb x.epoch e) (first_decrypted p x.share_of x.answers) None) (decrypted xs e p)
 
 -- "The plaintext is the value itself where the epoch is not encrypted, else 12's handle."
 unfoldable pub plaintext : (ℕ → Bool) → List Event → ℕ → ℕ → Option ℕ
@@ -197,12 +197,12 @@ pub record Reading : Type 0 where
   pub b : ℕ
 
 unfoldable pub reading_of : ℕ → Option ℕ → Rec → List Reading
-reading_of kind none r = []
-reading_of kind (some x) r = record { kind = kind; subject = x; a = r.a; b = r.b } ∷ []
+reading_of kind None r = []
+reading_of kind (Some x) r = record { kind = kind; subject = x; a = r.a; b = r.b } ∷ []
 
 unfoldable pub value_concerned : (ℕ → Option ℕ) → Option ℕ → Option ℕ
-value_concerned value none = none
-value_concerned value (some p) = value p
+value_concerned value None = None
+value_concerned value (Some p) = value p
 
 -- "Kinds 8 and 9 concern their proposer's value", a 12 that of the proposer that it concerns. `value` gives the values taken in the epoch
 unfoldable pub readings_at : (ℕ → Option ℕ) → Option ℕ → Rec → List Reading

@@ -1,6 +1,6 @@
 -- What the paper's rule (Demand2.antt) compares an epoch's output with, told from a run's history.
 use Rattle.std.specs.Prelude.{ℕ, ◌+◌, List, [], ◌∷◌, ◌++◌, Bool, cond, ◌&&◌, eqb}
-use Rattle.std.proofs.Math.Option.{Option, none, some}
+use Rattle.std.specs.Prelude.{Option, None, Some}
 use Rattle.network.specs.declared.network_info.NetworkInfo.{NetworkInfo}
 use Rattle.steps.specs.Answers.{Rec}
 use Rattle.steps.specs.Taken.{is_there, is_true}
@@ -23,7 +23,7 @@ paired p plaintext = record { proposer = p; plaintext = plaintext }
 -- the pairs of a batch's entries
 unfoldable pub pairs_in : List BatchEntry → List Paired
 pairs_in [] = []
-pairs_in (x ∷ xs) = paired x.proposer (some x.plaintext) ∷ pairs_in xs
+pairs_in (x ∷ xs) = paired x.proposer (Some x.plaintext) ∷ pairs_in xs
 
 -- for each 13 that reads (a is not 0) its proposer, with the plaintext that `text` gives
 unfoldable pub pairs_read : (ℕ → Option ℕ) → List Rec → List Paired
@@ -36,9 +36,9 @@ pairs_given encrypted h x = pairs_read (plaintext encrypted h x.batch.epoch) x.t
 
 -- the plaintext in a proposer's decryption entry
 unfoldable pub plaintext_of : DecryptionState → Option ℕ
-plaintext_of missing = none
-plaintext_of (ongoing td) = none
-plaintext_of (complete x) = some x
+plaintext_of missing = None
+plaintext_of (ongoing td) = None
+plaintext_of (complete x) = Some x
 
 -- how many answers of this kind about p the calls for epoch e have, all together
 unfoldable pub times_asked_in : ℕ → List Event → ℕ → ℕ → ℕ

@@ -2,7 +2,8 @@
 use Rattle.std.specs.Prelude.{ℕ, ◌+◌, ◌/◌, List, [], ◌∷◌, ◌++◌, Bool, true, false, cond, ◌&&◌, not, length, set, drop, replicate, eqb, leb, ltb}
 use Rattle.steps.specs.Numbers.{broadcast_content, agreement_content, share_content, success, not_a_state, scratch_too_short, answers_malformed, epoch_too_high, message_malformed, answers_unread, step_table_too_short, unknown_sender, target_too_high, last_epoch, fault_limit}
 use Rattle.steps.specs.Table.{handle, within, table_ok}
-use Rattle.steps.specs.Answers.{Rec, tape_of}
+use Rattle.steps.specs.Answers.{tape_of}
+unfoldable pub use Rattle.steps.specs.Answers.{is_end}
 use Rattle.steps.specs.Steps.{Entry, faults, written, written_failed}
 use Rattle.steps.specs.Runs.{Verdict, going, refused, failed, number_of, Run}
 use Rattle.epoch.specs.declared.MessageContent.{MessageContent}
@@ -31,10 +32,6 @@ count_faults w log =
     cond (leb (fault_count w + length (faults log)) fault_limit)
     (set w faults_at (fault_count w + length (faults log)))
     (set w faults_at fault_limit)
-
-unfoldable pub is_end : List Rec → Bool
-is_end [] = true
-is_end (r ∷ rs) = false
 
 -- what a run comes to: 8, 9 and 10, in this order, leave the state and the step table untouched; a failure loses the step
 unfoldable pub conclude_as : Verdict (Unit {0}) → Run (List ℕ) (Unit {0}) → ℕ → List ℕ → List ℕ → List ℕ → After

@@ -3,7 +3,7 @@ use Prim.Native.Nat.{ℕ, ◌<◌, ◌≤◌}
 use mathlib.Core.Path.{◌≡◌, refl, sym, ap, ◌∙◌}
 use mathlib.Core.List.{List, [], ◌∷◌}
 use mathlib.Core.Bool.{Bool, true, false, cond, not, ◌&&◌, ◌||◌, false≢true}
-use mathlib.Core.Option.{Option, none, some}
+use Rattle.std.specs.Prelude.{Option, None, Some}
 use native.Mathlib.Omega.{arith}
 use lib.ListN.{set}
 use lib.Dec.{eqb, ltb}
@@ -63,7 +63,7 @@ module _ (net : NetworkInfo) (proposer : ℕ) where
       (h td.shares p)
 
   -- starting, case by case
-  pub start_redundant : (td : ThresholdDecrypt) (p : Tape) → td.had_input ≡ true → start_decryption net proposer td p ≡ ends (going none) td p
+  pub start_redundant : (td : ThresholdDecrypt) (p : Tape) → td.had_input ≡ true → start_decryption net proposer td p ≡ ends (going None) td p
   unfolding start_decryption start_with
   start_redundant td p e = rw e
 
@@ -76,18 +76,18 @@ module _ (net : NetworkInfo) (proposer : ℕ) where
   unfolding start_decryption start_with try_output try_with
   start_onward td p e z =
       rw (e, ne_eqb _ _ z)
-      (onward_cong _ _ _ (λ _ td q. own_cong (try_with net (ends (going none))) (try_output net proposer) (with_input td) q (λ s u. refl)))
+      (onward_cong _ _ _ (λ _ td q. own_cong (try_with net (ends (going None))) (try_output net proposer) (with_input td) q (λ s u. refl)))
 
   -- combining, case by case
-  pub try_ended : (td : ThresholdDecrypt) (p : Tape) → td.terminated ≡ true → try_output net proposer td p ≡ ends (going none) td p
+  pub try_ended : (td : ThresholdDecrypt) (p : Tape) → td.terminated ≡ true → try_output net proposer td p ≡ ends (going None) td p
   unfolding try_output try_with
   try_ended td p e = rw e
 
-  pub try_few : (td : ThresholdDecrypt) (p : Tape) → td.terminated ≡ false → count_shares td.shares ≤ net.num_faulty → try_output net proposer td p ≡ ends (going none) td p
+  pub try_few : (td : ThresholdDecrypt) (p : Tape) → td.terminated ≡ false → count_shares td.shares ≤ net.num_faulty → try_output net proposer td p ≡ ends (going None) td p
   unfolding try_output try_with
   try_few td p e h = rw (e, le-leb _ _ h)
 
-  pub try_none : (td : ThresholdDecrypt) (p : Tape) → td.terminated ≡ false → net.num_faulty < count_shares td.shares → td.ciphertext ≡ 0 → try_output net proposer td p ≡ ends (going none) td p
+  pub try_none : (td : ThresholdDecrypt) (p : Tape) → td.terminated ≡ false → net.num_faulty < count_shares td.shares → td.ciphertext ≡ 0 → try_output net proposer td p ≡ ends (going None) td p
   unfolding try_output try_with
   try_none td p e h z = rw (e, lt-leb _ _ h, eq-eqb _ _ z)
 
@@ -105,29 +105,29 @@ module _ (net : NetworkInfo) (proposer : ℕ) where
       let b = and-true _ _ a.0 in
       (not-true _ b.0, rw (← k) (ltb-true _ _ b.1), eqb-false _ _ (not-true _ a.1), rw (e, not-true td.terminated b.0) refl)
 
-  try_waits : (td : ThresholdDecrypt) (p : Tape) (n : ℕ) → n ≡ count_shares td.shares → combines_now td n ≡ false → try_output net proposer td p ≡ ends (going none) (marked td (combines_now td n)) p
+  try_waits : (td : ThresholdDecrypt) (p : Tape) (n : ℕ) → n ≡ count_shares td.shares → combines_now td n ≡ false → try_output net proposer td p ≡ ends (going None) (marked td (combines_now td n)) p
   try_waits td p n k e = rw (e, unmarked td) (go _ _ _ refl refl refl)
     where
-      go : (x y z : Bool) → td.terminated ≡ x → ltb net.num_faulty n ≡ y → eqb td.ciphertext 0 ≡ z → try_output net proposer td p ≡ ends (going none) td p
+      go : (x y z : Bool) → td.terminated ≡ x → ltb net.num_faulty n ≡ y → eqb td.ciphertext 0 ≡ z → try_output net proposer td p ≡ ends (going None) td p
       go true y z u v w = try_ended td p u
       go false false z u v w = try_few td p u (rw (← k) (ltb-false _ _ v))
       go false true true u v w = try_none td p u (rw (← k) (ltb-true _ _ v)) (eqb-true _ _ w)
       go false true false u v w = absurd (false≢true (sym e ∙ rw (u, v, w) refl))
 
   -- a start while combining combines nothing
-  try_quiet : (k : Does) (td : ThresholdDecrypt) (p : Tape) → td.terminated ≡ true → ends (going none) td p ≡ try_with net k td p
+  try_quiet : (k : Does) (td : ThresholdDecrypt) (p : Tape) → td.terminated ≡ true → ends (going None) td p ≡ try_with net k td p
   unfolding try_with
   try_quiet k td p e = rw e
 
-  start_ended : (td : ThresholdDecrypt) (p : Tape) → start_with net proposer (ends (going none)) (with_end td) p ≡ start_decryption net proposer (with_end td) p
+  start_ended : (td : ThresholdDecrypt) (p : Tape) → start_with net proposer (ends (going None)) (with_end td) p ≡ start_decryption net proposer (with_end td) p
   unfolding start_decryption start_with
   start_ended td p =
       let r = remove_invalid_shares (with_end td) p in
       cond_cong td.had_input refl
       (cond_cong (eqb td.ciphertext 0) refl
       (onward_at r _ _
-      (λ _ _. own_cong (ends (going none)) (try_with net (ends (going none))) (with_input r.state) r.tape
-      (λ s q. try_quiet (ends (going none)) (with_shares (with_input r.state) s) q (remove_ended true (with_end td) p refl)))))
+      (λ _ _. own_cong (ends (going None)) (try_with net (ends (going None))) (with_input r.state) r.tape
+      (λ s q. try_quiet (ends (going None)) (with_shares (with_input r.state) s) q (remove_ended true (with_end td) p refl)))))
 
   -- COMBINING FIRST MAKES SURE DECRYPTION HAS STARTED
   pub try_onward : (td : ThresholdDecrypt) (p : Tape) → td.terminated ≡ false → net.num_faulty < count_shares td.shares → (td.ciphertext ≡ 0 → ⊥) → try_output net proposer td p ≡ onward (start_decryption net proposer (with_end td) p) (λ _ td q. combine td q)
@@ -141,26 +141,26 @@ module _ (net : NetworkInfo) (proposer : ℕ) where
 
   -- where nothing is to be started the shares are combined, or it waits
   pub try_rest : (td : ThresholdDecrypt) (p : Tape) (n : ℕ) → n ≡ count_shares td.shares → (combines_now td n && not td.had_input) ≡ false
-      → try_output net proposer td p ≡ cond (combines_now td n) (combine (marked td (combines_now td n)) p) (ends (going none) (marked td (combines_now td n)) p)
+      → try_output net proposer td p ≡ cond (combines_now td n) (combine (marked td (combines_now td n)) p) (ends (going None) (marked td (combines_now td n)) p)
   try_rest td p n k e = go _ refl
     where
-      go : (x : Bool) → combines_now td n ≡ x → try_output net proposer td p ≡ cond x (combine (marked td (combines_now td n)) p) (ends (going none) (marked td (combines_now td n)) p)
+      go : (x : Bool) → combines_now td n ≡ x → try_output net proposer td p ≡ cond x (combine (marked td (combines_now td n)) p) (ends (going None) (marked td (combines_now td n)) p)
       go true c = try_started td (marked td (combines_now td n)) p (ready td n k c) (not-false _ (sym (ap (λ x. x && not td.had_input) c) ∙ e))
       go false c = try_waits td p n k c
 
-  own_quiet : (td : ThresholdDecrypt) (p : Tape) → Afterwards (own_share net proposer (ends (going none)) td p) (λ o s q. o ≡ none)
+  own_quiet : (td : ThresholdDecrypt) (p : Tape) → Afterwards (own_share net proposer (ends (going None)) td p) (λ o s q. o ≡ None)
   unfolding own_share
   own_quiet td p = after_cond (is_validator net && net.has_key) _ _ _ (after_ask p 11 td _ _ (λ a b q r. refl)) refl
 
-  pub start_quiet : (td : ThresholdDecrypt) (p : Tape) (h : ℕ) → (start_decryption net proposer (with_end td) p).verdict ≡ going (some h) → ⊥
+  pub start_quiet : (td : ThresholdDecrypt) (p : Tape) (h : ℕ) → (start_decryption net proposer (with_end td) p).verdict ≡ going (Some h) → ⊥
   unfolding start_with
   start_quiet td p h e =
-      let m : (start_with net proposer (ends (going none)) (with_end td) p).verdict ≡ going (some h) = ap (λ r. r.verdict) (start_ended td p) ∙ e in
-      let z : ◌≡◌ {A = Option ℕ} (some h) none = after_out (start_with net proposer (ends (going none)) (with_end td) p) (λ o s q. o ≡ none) (some h) quiet m in
+      let m : (start_with net proposer (ends (going None)) (with_end td) p).verdict ≡ going (Some h) = ap (λ r. r.verdict) (start_ended td p) ∙ e in
+      let z : ◌≡◌ {A = Option ℕ} (Some h) None = after_out (start_with net proposer (ends (going None)) (with_end td) p) (λ o s q. o ≡ None) (Some h) quiet m in
       let y : ◌≡◌ {A = ℕ} 0 1 = cc in
       omega arith
     where
-      quiet : Afterwards (start_with net proposer (ends (going none)) (with_end td) p) (λ o s q. o ≡ none)
+      quiet : Afterwards (start_with net proposer (ends (going None)) (with_end td) p) (λ o s q. o ≡ None)
       quiet =
           after_cond td.had_input _ _ _ refl
           (after_cond (eqb td.ciphertext 0) _ _ _ tt
@@ -180,15 +180,15 @@ module _ (net : NetworkInfo) (proposer : ℕ) where
       ended : d ≡ leaves o (start_decryption net proposer (with_end td) p)
       ended = r ∙ ap (λ x. leaves o (start_decryption net proposer x p)) y.3
 
-      pub try_stops : (d.verdict ≡ going none → ⊥) → d ≡ leaves o (try_output net proposer td p)
+      pub try_stops : (d.verdict ≡ going None → ⊥) → d ≡ leaves o (try_output net proposer td p)
       try_stops n = rw (try_onward td p y.0 y.1 y.2) (onward_stop d o _ _ ended stops)
         where
           stops : (a : Option ℕ) → d.verdict ≡ going a → ⊥
-          stops none m = n m
-          stops (some b) m = start_quiet td p b (sym (ap (λ x. x.verdict) ended) ∙ m)
+          stops None m = n m
+          stops (Some b) m = start_quiet td p b (sym (ap (λ x. x.verdict) ended) ∙ m)
 
-      pub try_goes : d.verdict ≡ going none → leaves d.out (combine d.state d.tape) ≡ leaves o (try_output net proposer td p)
-      try_goes n = rw (try_onward td p y.0 y.1 y.2) (onward_go d o _ (λ _ td q. combine td q) ended none n)
+      pub try_goes : d.verdict ≡ going None → leaves d.out (combine d.state d.tape) ≡ leaves o (try_output net proposer td p)
+      try_goes n = rw (try_onward td p y.0 y.1 y.2) (onward_go d o _ (λ _ td q. combine td q) ended None n)
 
   -- the own share, case by case
   module _ (try : Does) (td : ThresholdDecrypt) (p : Tape) where
@@ -218,7 +218,7 @@ module _ (td : ThresholdDecrypt) (p : Tape) (x : Answer) (q : Tape) (k : asked x
   unfolding combine
   combine_failed a b n z = heard_got _ x q td _ k a b n ∙ rw (eq-eqb _ _ z)
 
-  pub combine_plain : (a b : ℕ) → x ≡ Got a b → (a ≡ 0 → ⊥) → combine td p ≡ ends (going (some b)) td q
+  pub combine_plain : (a b : ℕ) → x ≡ Got a b → (a ≡ 0 → ⊥) → combine td p ≡ ends (going (Some b)) td q
   unfolding combine
   combine_plain a b n z = heard_got _ x q td _ k a b n ∙ rw (ne_eqb _ _ z)
 

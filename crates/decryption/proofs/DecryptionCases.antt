@@ -4,7 +4,7 @@ use Prim.Native.Nat.{ℕ}
 use mathlib.Core.Path.{refl}
 use mathlib.Core.List.{List, [], ◌∷◌}
 use mathlib.Core.Bool.{Bool, true, false, cond}
-use mathlib.Core.Option.{Option, none, some}
+use Rattle.std.specs.Prelude.{Option, None, Some}
 use lib.ListN.{set, replicate}
 use lib.Dec.{eqb}
 use Rattle.network.specs.declared.network_info.NetworkInfo.{NetworkInfo}
@@ -86,33 +86,33 @@ all_read = tape 0 []
 -- plaintext of it
 abbrev pub case_7 : Rows
 case_7 =
-    (share 2 31 (yes 10 2 ∷ yes 12 7 ∷ []) ⇒ ran (going none) (started (set no_shares 2 31)) [] (from 2 (yes 10 2 ∷ yes 12 7 ∷ [])))
+    (share 2 31 (yes 10 2 ∷ yes 12 7 ∷ []) ⇒ ran (going None) (started (set no_shares 2 31)) [] (from 2 (yes 10 2 ∷ yes 12 7 ∷ [])))
     ∷ (share 3 32 (yes 10 3 ∷ []) ⇒ ran refused (started (set no_shares 2 31)) [] all_read)
-    ∷ (share 3 32 (yes 10 3 ∷ yes 12 7 ∷ []) ⇒ ran (going (some 7)) (with_end (started (set (set no_shares 2 31) 3 32))) [] all_read)
+    ∷ (share 3 32 (yes 10 3 ∷ yes 12 7 ∷ []) ⇒ ran (going (Some 7)) (with_end (started (set (set no_shares 2 31) 3 32))) [] all_read)
     ∷ []
 
 -- CASE 8. "Second share of a sender: overwritten, fault 6, no combining"
 abbrev pub case_8 : Rows
-case_8 = (share 2 33 (yes 10 2 ∷ yes 12 7 ∷ []) ⇒ ran (going none) (started (set no_shares 2 33)) (fault 6 2 0 ∷ []) (from 2 (yes 10 2 ∷ yes 12 7 ∷ []))) ∷ []
+case_8 = (share 2 33 (yes 10 2 ∷ yes 12 7 ∷ []) ⇒ ran (going None) (started (set no_shares 2 33)) (fault 6 2 0 ∷ []) (from 2 (yes 10 2 ∷ yes 12 7 ∷ []))) ∷ []
 
 -- not even where there are enough shares to combine
 abbrev pub case_8_enough : Rows
-case_8_enough = (share 2 33 (yes 10 2 ∷ yes 12 7 ∷ []) ⇒ ran (going none) (filled (set (set no_shares 2 33) 3 32)) (fault 6 2 0 ∷ []) (from 2 (yes 10 2 ∷ yes 12 7 ∷ []))) ∷ []
+case_8_enough = (share 2 33 (yes 10 2 ∷ yes 12 7 ∷ []) ⇒ ran (going None) (filled (set (set no_shares 2 33) 3 32)) (fault 6 2 0 ∷ []) (from 2 (yes 10 2 ∷ yes 12 7 ∷ []))) ∷ []
 
 -- shares before the ciphertext are stored unchecked, here of senders 3, 0 and 2 in that order. At the start they are checked in sender order;
 -- those of 0 and 3 do not verify
 abbrev pub early : Rows
 early =
-    (share 3 31 [] ⇒ ran (going none) (waiting (set no_shares 3 31)) [] all_read)
-    ∷ (share 0 32 [] ⇒ ran (going none) (waiting (set (set no_shares 3 31) 0 32)) [] all_read)
-    ∷ (share 2 33 [] ⇒ ran (going none) (waiting (set (set (set no_shares 3 31) 0 32) 2 33)) [] all_read)
+    (share 3 31 [] ⇒ ran (going None) (waiting (set no_shares 3 31)) [] all_read)
+    ∷ (share 0 32 [] ⇒ ran (going None) (waiting (set (set no_shares 3 31) 0 32)) [] all_read)
+    ∷ (share 2 33 [] ⇒ ran (going None) (waiting (set (set (set no_shares 3 31) 0 32) 2 33)) [] all_read)
     ∷ (ciphertext 9 (yes 9 0 ∷ []) ⇒ verified (going true) (filled (set (set (set no_shares 3 31) 0 32) 2 33)) [] all_read)
-    ∷ (start (no 10 0 ∷ yes 10 2 ∷ no 10 3 ∷ []) ⇒ ran (going none) (started (set no_shares 2 33)) (fault 7 0 0 ∷ fault 7 3 0 ∷ []) all_read)
+    ∷ (start (no 10 0 ∷ yes 10 2 ∷ no 10 3 ∷ []) ⇒ ran (going None) (started (set no_shares 2 33)) (fault 7 0 0 ∷ fault 7 3 0 ∷ []) all_read)
     ∷ []
 
 -- the own share overwrites one stored under the own index. It is sent as message 3 for proposer 2
 abbrev pub own_share_lem : Rows
-own_share_lem = (start (yes 10 1 ∷ yes 11 77 ∷ []) ⇒ ran (going none) (started (set no_shares 1 77)) (message 3 2 77 ∷ []) all_read) ∷ []
+own_share_lem = (start (yes 10 1 ∷ yes 11 77 ∷ []) ⇒ ran (going None) (started (set no_shares 1 77)) (message 3 2 77 ∷ []) all_read) ∷ []
 
 -- a ciphertext that is already set fails with 25 before kind 9 is read
 abbrev pub second_ciphertext : Rows

@@ -3,7 +3,7 @@ use Prim.Native.Nat.{ℕ}
 use mathlib.Core.Path.{◌≡◌, refl, sym, ap, ◌∙◌}
 use mathlib.Core.List.{[], ◌∷◌}
 use mathlib.Core.Bool.{Bool, true, false, cond, false≢true}
-use mathlib.Core.Option.{Option, none}
+use Rattle.std.specs.Prelude.{Option, None}
 use lib.ListN.{get_or, set}
 use lib.Dec.{leb, eqb}
 use borrow.Author.Tests.{eqb-true, eqb-false, leb-true, leb-false, not-true, ne_eqb}
@@ -41,11 +41,11 @@ set_some proposer c td p n e z = n (sym (set_has proposer c td p e) ∙ z)
 module _ (net : NetworkInfo) (proposer : ℕ) where
   -- with a ciphertext a start comes past the test for it
   pub start_has : (td : ThresholdDecrypt) (p : Tape) → (td.ciphertext ≡ 0 → ⊥) → start_decryption net proposer td p
-      ≡ cond td.had_input (ends (going none) td p) (onward (remove_invalid_shares td p) (λ _ td q. own_share net proposer (try_output net proposer) (with_input td) q))
+      ≡ cond td.had_input (ends (going None) td p) (onward (remove_invalid_shares td p) (λ _ td q. own_share net proposer (try_output net proposer) (with_input td) q))
   start_has td p z = go td.had_input refl
     where
       go : (x : Bool) → td.had_input ≡ x → start_decryption net proposer td p
-          ≡ cond x (ends (going none) td p) (onward (remove_invalid_shares td p) (λ _ td q. own_share net proposer (try_output net proposer) (with_input td) q))
+          ≡ cond x (ends (going None) td p) (onward (remove_invalid_shares td p) (λ _ td q. own_share net proposer (try_output net proposer) (with_input td) q))
       go true e = start_redundant net proposer td p e
       go false e = start_onward net proposer td p e z
 
@@ -60,7 +60,7 @@ module _ (net : NetworkInfo) (proposer : ℕ) where
       k : ThresholdDecrypt → Tape → Run ThresholdDecrypt (Option ℕ)
       k td q = combine td q
 
-      go : (x : Bool) → eqb td.ciphertext 0 ≡ x → cond x (ends (going none) td p) (onward (f (with_end td) p) (λ _ td q. k td q)) ≡ cond x (ends (going none) td p) (onward (g (with_end td) p) (λ _ td q. k td q))
+      go : (x : Bool) → eqb td.ciphertext 0 ≡ x → cond x (ends (going None) td p) (onward (f (with_end td) p) (λ _ td q. k td q)) ≡ cond x (ends (going None) td p) (onward (g (with_end td) p) (λ _ td q. k td q))
       go true e = refl
       go false e = ap (λ r. onward r (λ _ td q. k td q)) (h (with_end td) p (eqb-false _ _ e))
 
@@ -94,30 +94,30 @@ module _ (net : NetworkInfo) (proposer : ℕ) where
 
 -- A DUPLICATE SHARE COMBINES NOTHING. It overwrites the first and is fault 6, and nothing is asked but whether it is valid
 module _ (net : NetworkInfo) (proposer sender share : ℕ) (td : ThresholdDecrypt) (p : Tape) (e : td.terminated ≡ false) (s : is_sender td sender ≡ true) where
-  pub again_early : td.ciphertext ≡ 0 → handle_message net proposer sender share td p ≡ before (fault 6 sender 0 ∷ []) (ends (going none) (with_shares td (set td.shares sender share)) p)
+  pub again_early : td.ciphertext ≡ 0 → handle_message net proposer sender share td p ≡ before (fault 6 sender 0 ∷ []) (ends (going None) (with_shares td (set td.shares sender share)) p)
   again_early z = handle_valid net proposer sender share td p Valid p (sym (valid_early sender td p z)) e refl ∙ store_again net proposer sender share td p (eqb-false _ _ (not-true _ s))
 
-  pub again_late : (td.ciphertext ≡ 0 → ⊥) → (a b : ℕ) (q : Tape) → asked (Got a b) q ≡ ask_about p 10 sender → (a ≡ 0 → ⊥) → handle_message net proposer sender share td p ≡ before (fault 6 sender 0 ∷ []) (ends (going none) (with_shares td (set td.shares sender share)) q)
+  pub again_late : (td.ciphertext ≡ 0 → ⊥) → (a b : ℕ) (q : Tape) → asked (Got a b) q ≡ ask_about p 10 sender → (a ≡ 0 → ⊥) → handle_message net proposer sender share td p ≡ before (fault 6 sender 0 ∷ []) (ends (going None) (with_shares td (set td.shares sender share)) q)
   again_late z a b q k y =
       handle_valid net proposer sender share td p Valid q (sym (valid_told sender td p _ q k z a b refl ∙ rw (ne_eqb _ _ y))) e refl
       ∙ store_again net proposer sender share td q (eqb-false _ _ (not-true _ s))
 
 -- WITHOUT A CIPHERTEXT a share combines nothing, whether it is kept, a duplicate or late
-pub early_none : (net : NetworkInfo) (proposer sender share : ℕ) (td : ThresholdDecrypt) (p : Tape) → td.ciphertext ≡ 0 → (handle_message net proposer sender share td p).verdict ≡ going none
+pub early_none : (net : NetworkInfo) (proposer sender share : ℕ) (td : ThresholdDecrypt) (p : Tape) → td.ciphertext ≡ 0 → (handle_message net proposer sender share td p).verdict ≡ going None
 early_none net proposer sender share td p z = ended td.terminated refl
   where
     kept : ThresholdDecrypt
     kept = with_shares td (set td.shares sender share)
 
-    few : td.terminated ≡ false → (x : Bool) → leb (count_shares kept.shares) net.num_faulty ≡ x → (try_output net proposer kept p).verdict ≡ going none
+    few : td.terminated ≡ false → (x : Bool) → leb (count_shares kept.shares) net.num_faulty ≡ x → (try_output net proposer kept p).verdict ≡ going None
     few e true l = rw (try_few net proposer kept p e (leb-true _ _ l))
     few e false l = rw (try_none net proposer kept p e (leb-false _ _ l) z)
 
-    first : td.terminated ≡ false → (x : Bool) → eqb (get_or td.shares sender 0) 0 ≡ x → (store_share net proposer sender share td p).verdict ≡ going none
+    first : td.terminated ≡ false → (x : Bool) → eqb (get_or td.shares sender 0) 0 ≡ x → (store_share net proposer sender share td p).verdict ≡ going None
     first e true s = rw (store_first net proposer sender share td p (eqb-true _ _ s)) (few e (leb (count_shares kept.shares) net.num_faulty) refl)
     first e false s = rw (store_again net proposer sender share td p (eqb-false _ _ s))
 
-    ended : (x : Bool) → td.terminated ≡ x → (handle_message net proposer sender share td p).verdict ≡ going none
+    ended : (x : Bool) → td.terminated ≡ x → (handle_message net proposer sender share td p).verdict ≡ going None
     ended true e = rw (handle_ended net proposer sender share td p e)
     ended false e = rw (handle_valid net proposer sender share td p Valid p (sym (valid_early sender td p z)) e refl) (first e (eqb (get_or td.shares sender 0) 0) refl)
 

@@ -3,7 +3,7 @@ use Prim.Native.Nat.{ℕ}
 use mathlib.Core.Path.{◌≡◌}
 use mathlib.Core.List.{[], ◌∷◌}
 use mathlib.Core.Bool.{true, false}
-use mathlib.Core.Option.{Option, none}
+use Rattle.std.specs.Prelude.{Option, None}
 use lib.ListN.{get_or, set}
 use borrow.Author.Tests.{eq-eqb, ne_eqb}
 use Rattle.network.specs.declared.network_info.NetworkInfo.{NetworkInfo}
@@ -22,15 +22,15 @@ module _ (net : NetworkInfo) (proposer sender share : ℕ) (td : ThresholdDecryp
   store_first z = rw (eq-eqb _ _ z)
 
   -- a duplicate share overwrites the first and is fault 6; nothing is asked or combined
-  pub store_again : (get_or td.shares sender 0 ≡ 0 → ⊥) → store_share net proposer sender share td p ≡ before (fault 6 sender 0 ∷ []) (ends (going none) (with_shares td (set td.shares sender share)) p)
+  pub store_again : (get_or td.shares sender 0 ≡ 0 → ⊥) → store_share net proposer sender share td p ≡ before (fault 6 sender 0 ∷ []) (ends (going None) (with_shares td (set td.shares sender share)) p)
   unfolding store_share
   store_again z = rw (ne_eqb _ _ z)
 
-  pub store_faults : (get_or td.shares sender 0 ≡ 0 → ⊥) → (o u : Out) → u ≡ put_entry o (fault 6 sender 0) → leaves u (ends {A = Option ℕ} (going none) (with_shares td (set td.shares sender share)) p) ≡ leaves o (store_share net proposer sender share td p)
+  pub store_faults : (get_or td.shares sender 0 ≡ 0 → ⊥) → (o u : Out) → u ≡ put_entry o (fault 6 sender 0) → leaves u (ends {A = Option ℕ} (going None) (with_shares td (set td.shares sender share)) p) ≡ leaves o (store_share net proposer sender share td p)
   unfolding put_all
   store_faults z o u e = rw (store_again z, e)
 
-  pub handle_ended : td.terminated ≡ true → handle_message net proposer sender share td p ≡ ends (going none) td p
+  pub handle_ended : td.terminated ≡ true → handle_message net proposer sender share td p ≡ ends (going None) td p
   unfolding handle_message
   handle_ended e = rw e
 
@@ -44,6 +44,6 @@ module _ (net : NetworkInfo) (proposer sender share : ℕ) (td : ThresholdDecryp
     unfolding handle_message onward onward_as
     handle_valid n = rw (← v, n, e)
 
-    pub handle_invalid : r ≡ Invalid → (o u : Out) → u ≡ put_entry o (fault 7 sender 0) → leaves u (ends {A = Option ℕ} (going none) td q) ≡ leaves o (handle_message net proposer sender share td p)
+    pub handle_invalid : r ≡ Invalid → (o u : Out) → u ≡ put_entry o (fault 7 sender 0) → leaves u (ends {A = Option ℕ} (going None) td q) ≡ leaves o (handle_message net proposer sender share td p)
     unfolding handle_message onward onward_as put_all
     handle_invalid n o u m = rw (← v, n, e, m)

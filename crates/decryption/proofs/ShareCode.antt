@@ -4,7 +4,7 @@ use native.Mathlib.Omega.{arith}
 use mathlib.Core.Path.{◌≡◌, refl, ◌∙◌}
 use mathlib.Core.List.{List}
 use mathlib.Core.Bool.{true, false, cond, not}
-use mathlib.Core.Option.{none}
+use Rattle.std.specs.Prelude.{None}
 use lib.ListN.{get_or, set}
 use lib.Dec.{eqb}
 use borrow.Author.Tests.{eq-eqb, ne_eqb}
@@ -54,7 +54,7 @@ pub not_done : (x : Checked) → (x ≡ Done → ⊥) → checked_verdict x ≡ 
 not_done Done h = absurd (h refl)
 not_done NoneChecked h = refl
 
-pub not_nothing : (x : Outcome) → (x ≡ Nothing → ⊥) → verdict x ≡ going none → ⊥
+pub not_nothing : (x : Outcome) → (x ≡ Nothing → ⊥) → verdict x ≡ going None → ⊥
 not_nothing Nothing h e = h refl
 not_nothing (Plaintext n) h e = let z : ◌≡◌ {A = ℕ} 0 1 = cc in omega arith
 not_nothing Refused h e = let z : ◌≡◌ {A = ℕ} 0 1 = cc in omega arith

@@ -2,7 +2,7 @@
 use Prim.Native.Nat.{ℕ, zero, suc, ◌+◌, ◌≤◌}
 use mathlib.Core.Path.{◌≡◌, refl}
 use mathlib.Core.Bool.{Bool, true, false, cond, ◌&&◌, not}
-use mathlib.Core.Option.{Option, none}
+use Rattle.std.specs.Prelude.{Option, None}
 use native.Mathlib.Omega.{arith}
 use lib.ListN.{set}
 use lib.Dec.{leb, eqb}
@@ -28,7 +28,7 @@ plaintext o = hand o 0
 
 -- where something is found invalid an answer was read, and an entry may be written for it
 abbrev pub unless_valid : ℕ → Bool → Hand
-unless_valid n x = hand none (cond x n (n + 1))
+unless_valid n x = hand None (cond x n (n + 1))
 
 unless_few : (n : ℕ) (x : Bool) → (unless_valid n x).entries ≤ n + 1
 unless_few n true = omega arith
@@ -39,8 +39,8 @@ module _ (T : Terms) (L : Logic T ThresholdDecrypt) where
   pub record Checks : Type 0 where
     pub reads : (k : ℕ) → within 9 11 k ≡ true → T.Kind k
     pub faults : (k a : ℕ) → within 6 7 k ≡ true → T.Writes (fault k a 0)
-    pub share : (td : ThresholdDecrypt) (i v : ℕ) → T.Handle v → L.Step none td none (with_shares td (set td.shares i v))
-    pub removed : (td : ThresholdDecrypt) (i : ℕ) → L.Step none td none (with_shares td (set td.shares i 0))
+    pub share : (td : ThresholdDecrypt) (i v : ℕ) → T.Handle v → L.Step None td None (with_shares td (set td.shares i v))
+    pub removed : (td : ThresholdDecrypt) (i : ℕ) → L.Step None td None (with_shares td (set td.shares i 0))
 
   -- and starting and combining besides
   pub record Combines : Type 0 where
@@ -48,18 +48,18 @@ module _ (T : Terms) (L : Logic T ThresholdDecrypt) where
     pub sends : (a b : ℕ) → T.Writes (message 3 a b)
     pub text : T.Text
     pub number : T.Number 24
-    pub input : (td : ThresholdDecrypt) → L.Step none td none (with_input td)
-    pub end : (td : ThresholdDecrypt) → L.Step none td none (with_end td)
+    pub input : (td : ThresholdDecrypt) → L.Step None td None (with_input td)
+    pub end : (td : ThresholdDecrypt) → L.Step None td None (with_end td)
 
   -- an operation whose runs are so, with n entries allowed at first
   abbrev pub Keeps : {A : Type 0} → (ℕ → A → Hand) → (ThresholdDecrypt → Tape → Run ThresholdDecrypt A) → Type 0
-  Keeps {A} f k = (n : ℕ) (td : ThresholdDecrypt) (p : Tape) → L.Good A (f n) (hand none n) td p (k td p)
+  Keeps {A} f k = (n : ℕ) (td : ThresholdDecrypt) (p : Tape) → L.Good A (f n) (hand None n) td p (k td p)
 
   abbrev Silent : {A : Type 0} → (ThresholdDecrypt → Tape → Run ThresholdDecrypt A) → Type 0
   Silent k = Keeps (λ _. nothing) k
 
   -- the ciphertext is set, or found invalid
-  pub set_keeps : (proposer ciphertext : ℕ) → T.Kind 9 → T.Number 25 → ((td : ThresholdDecrypt) → L.Step none td none (with_ciphertext td ciphertext))
+  pub set_keeps : (proposer ciphertext : ℕ) → T.Kind 9 → T.Number 25 → ((td : ThresholdDecrypt) → L.Step None td None (with_ciphertext td ciphertext))
       → Keeps unless_valid (set_ciphertext proposer ciphertext)
   unfolding set_ciphertext
   set_keeps proposer ciphertext kind number step n td p =
@@ -71,12 +71,12 @@ module _ (T : Terms) (L : Logic T ThresholdDecrypt) where
 
   -- by what was found
   pub by_valid : {A : Type 0} {f : A → Hand} {td : ThresholdDecrypt} {q : Tape} {r s : Run ThresholdDecrypt A} (n : ℕ) (valid : Bool)
-      → L.Good A f (hand none n) td q r → L.Good A f (hand none (n + 1)) td q s → L.Good A f (unless_valid n valid) td q (cond valid r s)
+      → L.Good A f (hand None n) td q r → L.Good A f (hand None (n + 1)) td q s → L.Good A f (unless_valid n valid) td q (cond valid r s)
   by_valid n true g h = g
   by_valid n false g h = h
 
   not_valid : {A : Type 0} {f : A → Hand} {td : ThresholdDecrypt} {q : Tape} {r s : Run ThresholdDecrypt A} (n : ℕ) (valid : Bool)
-      → L.Good A f (hand none (n + 1)) td q r → L.Good A f (hand none n) td q s → L.Good A f (unless_valid n valid) td q (cond (not valid) r s)
+      → L.Good A f (hand None (n + 1)) td q r → L.Good A f (hand None n) td q s → L.Good A f (unless_valid n valid) td q (cond (not valid) r s)
   not_valid n true g h = h
   not_valid n false g h = g
 
@@ -108,11 +108,11 @@ module _ (T : Terms) (L : Logic T ThresholdDecrypt) where
     unfolding own_share
     own_keeps f k h n td p =
         test L (is_validator net && net.has_key)
-        (λ _. L.asks _ _ none n 11 td p _ (R.checks.reads 11 refl) (λ a b q u.
+        (λ _. L.asks _ _ None n 11 td p _ (R.checks.reads 11 refl) (λ a b q u.
         put L n (R.sends proposer b) (move L (R.checks.share td net.our_id b u) (h n _ q))))
         (λ _. h n td p)
 
-    with_start : (f : Option ℕ → Hand) (k : Does) → f none ≡ hand none 0 → Keeps (λ _. f) k → Keeps (λ _. f) (start_with net proposer k)
+    with_start : (f : Option ℕ → Hand) (k : Does) → f None ≡ hand None 0 → Keeps (λ _. f) k → Keeps (λ _. f) (start_with net proposer k)
     unfolding start_with
     with_start f k e h n td p =
         test L td.had_input (λ _. tell L (rw e) (rw e (omega arith)))
@@ -130,7 +130,7 @@ module _ (T : Terms) (L : Logic T ThresholdDecrypt) where
     with_try : (k : Does) → Silent k → Keeps (λ _. plaintext) (try_with net k)
     unfolding try_with
     with_try k h n td p =
-        let stays = L.goes (Option ℕ) plaintext (hand none n) none td p refl (omega arith) in
+        let stays = L.goes (Option ℕ) plaintext (hand None n) None td p refl (omega arith) in
         test L td.terminated (λ _. stays)
         (λ _. test L (leb (count_shares td.shares) net.num_faulty) (λ _. stays)
         (λ _. test L (eqb td.ciphertext 0) (λ _. stays)
@@ -138,15 +138,15 @@ module _ (T : Terms) (L : Logic T ThresholdDecrypt) where
 
     pub start_keeps : Keeps (λ _. plaintext) (start_decryption net proposer)
     unfolding start_decryption
-    start_keeps n td p = with_start plaintext _ refl (with_try _ (λ n td p. here L none td p)) n td p
+    start_keeps n td p = with_start plaintext _ refl (with_try _ (λ n td p. here L None td p)) n td p
 
     pub try_keeps : Keeps (λ _. plaintext) (try_output net proposer)
     unfolding try_output
-    try_keeps n td p = with_try _ (with_start nothing _ refl (λ n td p. here L none td p)) n td p
+    try_keeps n td p = with_try _ (with_start nothing _ refl (λ n td p. here L None td p)) n td p
 
     -- a share that comes is a handle. Fault 6 follows no answer, so one entry is allowed besides
     pub store_keeps : (sender share : ℕ) → T.Handle share → (n : ℕ) (td : ThresholdDecrypt) (p : Tape)
-        → L.Good _ plaintext (hand none (n + 1)) td p (store_share net proposer sender share td p)
+        → L.Good _ plaintext (hand None (n + 1)) td p (store_share net proposer sender share td p)
     unfolding store_share
     store_keeps sender share u n td p =
         let step = R.checks.share td sender share u in
@@ -155,7 +155,7 @@ module _ (T : Terms) (L : Logic T ThresholdDecrypt) where
         (λ _. move L step (try_keeps (n + 1) _ p))
 
     pub handle_keeps : (sender share : ℕ) → T.Handle share → (n : ℕ) (td : ThresholdDecrypt) (p : Tape)
-        → L.Good _ plaintext (hand none (n + 1)) td p (handle_message net proposer sender share td p)
+        → L.Good _ plaintext (hand None (n + 1)) td p (handle_message net proposer sender share td p)
     unfolding handle_message
     handle_keeps sender share u n td p =
         test L td.terminated (λ _. tell L refl (omega arith))
@@ -168,7 +168,7 @@ module _ (T : Terms) (L : Logic T ThresholdDecrypt) where
 pub not_five : (k : ℕ) → within 6 7 k ≡ true → eqb k 5 ≡ false
 not_five k e = ne_eqb k 5 (λ z. omega (arith, leb-true 6 k (and-true (leb 6 k) (leb k 7) e).0))
 
-pub any_combines : {T : Terms} (L : Logic T ThresholdDecrypt) → ((s t : ThresholdDecrypt) → L.Step none s none t) → Permits T → T.Number 24 → Combines T L
+pub any_combines : {T : Terms} (L : Logic T ThresholdDecrypt) → ((s t : ThresholdDecrypt) → L.Step None s None t) → Permits T → T.Number 24 → Combines T L
 any_combines L step P number = record {
   checks = record { reads = λ k e. P.reads k; faults = λ k a e. P.faults k a (not_five k e); share = λ td i v u. step td _; removed = λ td i. step td _ };
   sends = P.sends;

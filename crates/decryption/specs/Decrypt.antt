@@ -1,6 +1,6 @@
 -- Threshold decryption, after threshold_decrypt.rs: a definition for each function, in its name.
 use Rattle.std.specs.Prelude.{ℕ, zero, suc, ◌+◌, List, [], ◌∷◌, Bool, true, false, cond, ◌&&◌, not, get_or, set, replicate, leb, eqb}
-use Rattle.std.proofs.Math.Option.{Option, none, some}
+use Rattle.std.specs.Prelude.{Option, None, Some}
 use Rattle.steps.specs.Numbers.{ciphertext_verifies, share_verifies, own_decryption_share, contribution_decrypted, share_content, multiple_decryption_shares, unverified_decryption_share_sender, decryption, multiple_inputs, node_limit}
 use Rattle.network.specs.declared.network_info.NetworkInfo.{NetworkInfo}
 use Rattle.network.specs.Network.{is_validator}
@@ -76,7 +76,7 @@ remove_invalid_shares td p = remove_from node_limit 0 td p
 
 -- the shares are combined; 24 `Decryption`
 unfoldable pub combine : ThresholdDecrypt → Tape → Run ThresholdDecrypt (Option ℕ)
-combine td p = heard (ask p contribution_decrypted) td (λ a b q. cond (eqb a 0) (ends (failed decryption) td q) (ends (going (some b)) td q))
+combine td p = heard (ask p contribution_decrypted) td (λ a b q. cond (eqb a 0) (ends (failed decryption) td q) (ends (going (Some b)) td q))
 
 -- "Starting decryption tries to combine, and combining first makes sure decryption has started." Each is given for any behaviour of the other
 module _ (net : NetworkInfo) (proposer : ℕ) where
@@ -91,36 +91,36 @@ module _ (net : NetworkInfo) (proposer : ℕ) where
   -- without a ciphertext the Rust fails with `CiphertextIsNone`; no caller gets there (docs/DECISIONS.md)
   unfoldable pub start_with : (ThresholdDecrypt → Tape → Run ThresholdDecrypt (Option ℕ)) → ThresholdDecrypt → Tape → Run ThresholdDecrypt (Option ℕ)
   start_with try td p =
-      cond td.had_input (ends (going none) td p)
+      cond td.had_input (ends (going None) td p)
       (cond (eqb td.ciphertext 0) (ends (failed decryption) td p)
       (onward (remove_invalid_shares td p) (λ _ td q. own_share try (with_input td) q)))
 
 -- "Combining wants a ciphertext and more than f shares."
 unfoldable pub try_with : NetworkInfo → (ThresholdDecrypt → Tape → Run ThresholdDecrypt (Option ℕ)) → ThresholdDecrypt → Tape → Run ThresholdDecrypt (Option ℕ)
 try_with net start td p =
-    cond td.terminated (ends (going none) td p)
-    (cond (leb (count_shares td.shares) net.num_faulty) (ends (going none) td p)
-    (cond (eqb td.ciphertext 0) (ends (going none) td p)
+    cond td.terminated (ends (going None) td p)
+    (cond (leb (count_shares td.shares) net.num_faulty) (ends (going None) td p)
+    (cond (eqb td.ciphertext 0) (ends (going None) td p)
     (onward (start (with_end td) p) (λ _ td q. combine td q))))
 
 module _ (net : NetworkInfo) (proposer : ℕ) where
   -- once each has set its flag the other ends at its first test; the laws `start_onward` and `try_onward` say that each goes on with the other
   unfoldable pub start_decryption : ThresholdDecrypt → Tape → Run ThresholdDecrypt (Option ℕ)
-  start_decryption td p = start_with net proposer (try_with net (ends (going none))) td p
+  start_decryption td p = start_with net proposer (try_with net (ends (going None))) td p
 
   unfoldable pub try_output : ThresholdDecrypt → Tape → Run ThresholdDecrypt (Option ℕ)
-  try_output td p = try_with net (start_with net proposer (ends (going none))) td p
+  try_output td p = try_with net (start_with net proposer (ends (going None))) td p
 
   -- a share is kept. A second one of a sender overwrites the first, is fault 6, and nothing is combined
   unfoldable pub store_share : ℕ → ℕ → ThresholdDecrypt → Tape → Run ThresholdDecrypt (Option ℕ)
   store_share sender share td p =
       cond (is_sender td sender)
-      (before (fault multiple_decryption_shares sender 0 ∷ []) (ends (going none) (with_shares td (set td.shares sender share)) p))
+      (before (fault multiple_decryption_shares sender 0 ∷ []) (ends (going None) (with_shares td (set td.shares sender share)) p))
       (try_output (with_shares td (set td.shares sender share)) p)
 
   -- fault 7 where the share is invalid, and an earlier one of the sender stays
   unfoldable pub handle_message : ℕ → ℕ → ThresholdDecrypt → Tape → Run ThresholdDecrypt (Option ℕ)
   handle_message sender share td p =
-      cond td.terminated (ends (going none) td p)
+      cond td.terminated (ends (going None) td p)
       (onward (is_share_valid sender td p) (λ valid td q.
-      cond (not valid) (before (fault unverified_decryption_share_sender sender 0 ∷ []) (ends (going none) td q)) (store_share sender share td q)))
+      cond (not valid) (before (fault unverified_decryption_share_sender sender 0 ∷ []) (ends (going None) td q)) (store_share sender share td q)))

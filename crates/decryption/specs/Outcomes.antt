@@ -1,6 +1,6 @@
 -- What each enum of threshold decryption stands for, with document 01's number, and what its functions leave.
 use Rattle.std.specs.Prelude.{ℕ, List, Bool, true, false}
-use Rattle.std.proofs.Math.Option.{Option, none, some}
+use Rattle.std.specs.Prelude.{Option, None, Some}
 use Rattle.steps.specs.Numbers.{decryption, multiple_inputs}
 use Rattle.steps.specs.Answers.{Tape}
 use Rattle.steps.specs.declared.step.Step.{Step}
@@ -37,8 +37,8 @@ checked_verdict NoneChecked = refused
 
 -- no plaintext yet, or the plaintext; 24 `Decryption`
 abbrev pub verdict : Outcome → Verdict (Option ℕ)
-verdict Nothing = going none
-verdict (Plaintext h) = going (some h)
+verdict Nothing = going None
+verdict (Plaintext h) = going (Some h)
 verdict Refused = refused
 verdict Decryption = failed decryption
 

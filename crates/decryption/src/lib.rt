@@ -5,7 +5,7 @@
 #![tactic(auto)]
 
 ghost use Rattle.std.specs.Prelude.{◌≡◌, ℕ, ◌<◌, List, cond};
-ghost use Rattle.std.proofs.Math.Option.{none};
+ghost use Rattle.std.specs.Prelude.{None};
 ghost use Rattle.network.specs.Network.{Network};
 ghost use Rattle.steps.specs.Answers.{tape_at};
 ghost use Rattle.steps.specs.declared.step.Step.{Step};
@@ -121,7 +121,7 @@ fn combine(answers: &[u64], place: &mut usize) -> Outcome
 // The same where there is something to combine.
 fn combine_if(combines: bool, answers: &[u64], place: &mut usize) -> Outcome
     ensures { (td : ThresholdDecrypt) (s : Step) (w : List ℕ) → left (handled td result s) (tape_at answers.now place.new) w
-        ≡ leaves (out s w) (cond combines (combine td (tape_at answers.now place.old)) (ends (going none) td (tape_at answers.now place.old))) }
+        ≡ leaves (out s w) (cond combines (combine td (tape_at answers.now place.old)) (ends (going None) td (tape_at answers.now place.old))) }
 {
     if !combines {
         return Outcome::Nothing;

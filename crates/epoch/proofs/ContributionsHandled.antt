@@ -3,7 +3,7 @@ use Prim.Native.Nat.{ℕ, zero, suc, ◌+◌, ◌≤◌, ◌<◌}
 use mathlib.Core.Path.{◌≡◌, refl, sym, ap, ◌∙◌}
 use mathlib.Core.List.{List}
 use mathlib.Core.Bool.{Bool, true, false}
-use mathlib.Core.Option.{Option, none, some}
+use Rattle.std.specs.Prelude.{Option, None, Some}
 use native.Mathlib.Omega.{arith}
 use lib.ListN.{length, get_or}
 use lib.Dec.{eqb}
@@ -114,7 +114,7 @@ accepting_then encrypted n p w w₁ v t who ws r size k h = record {
         (text_words encrypted n w (accept w₁ p) q (is_accepted w q) (v q) (t q) (λ j a b.
         accept_word w₁ p (record_at n q j) (λ z. omega arith) ∙ h.stays.other q j (omega arith) ne) (k q l))
 
-plain_none : (d : DecryptionState) (a : Bool) (v t : Option ℕ) → TextOk false d a v t → t ≡ none
+plain_none : (d : DecryptionState) (a : Bool) (v t : Option ℕ) → TextOk false d a v t → t ≡ None
 unfolding TextOk
 plain_none missing a v t h = h.0
 plain_none (ongoing td) a v t h = h.0
@@ -131,7 +131,7 @@ module _ (net : NetworkInfo) (p value : ℕ) (w : List ℕ) (u : Tape) (v t : �
       after_cond (eqb a 0) _ _ _
       (record {
         t' = t;
-        who' = some p;
+        who' = Some p;
         opening = eight z r;
         stays = stays_same n p w;
         text = text_accept (load_decryption n w p) (is_accepted w p) (v p) (t p) (k p inside);
@@ -139,17 +139,17 @@ module _ (net : NetworkInfo) (p value : ℕ) (w : List ℕ) (u : Tape) (v t : �
       })
       (after_map (call_entry net p (input_ciphertext net p value) w z) _ _ (input_entry net p w z inside size value (is_accepted w p) (v p) (t p) (k p inside)) (λ _ w' y h. record {
         t' = more t p h.o;
-        who' = some p;
+        who' = Some p;
         opening = opening_then (eight z r) (opening_ran t p z.rest h.o y.rest h.ran);
         stays = h.stays;
         text = rw (put_same t p (or_else (t p) h.o)) h.text;
         others = λ q ne. put_other t p (or_else (t p) h.o) q ne;
       })))
     where
-      eight : (z : Tape) → Reads u 8 p z → Opening t who u.rest t (some p) z.rest
+      eight : (z : Tape) → Reads u 8 p z → Opening t who u.rest t (Some p) z.rest
       eight z r = record { past = reads_past decryption_kinds u 8 p z refl r; text = λ q. ap (or_else (t q)) (reads_eight u p z r q who) }
 
-  plain_ok : v p ≡ some value → TextsOk false n w v t → Accepting false n p w v t who u.rest (store_decryption n w p (complete value)) u.rest
+  plain_ok : v p ≡ Some value → TextsOk false n w v t → Accepting false n p w v t who u.rest (store_decryption n w p (complete value)) u.rest
   unfolding TextOk
   plain_ok e k = record {
     t' = t;
@@ -160,7 +160,7 @@ module _ (net : NetworkInfo) (p value : ℕ) (w : List ℕ) (u : Tape) (v t : �
     others = λ q ne. refl;
   }
 
-  pub contribution_ok : (strategy : SubsetHandlingStrategy) (encrypted : Bool) → v p ≡ some value → TextsOk encrypted n w v t
+  pub contribution_ok : (strategy : SubsetHandlingStrategy) (encrypted : Bool) → v p ≡ Some value → TextsOk encrypted n w v t
       → Afterwards (handle_contribution net strategy encrypted p value w u) (λ _ w' z. Contributed encrypted n p w v t who u.rest w' z.rest)
   unfolding handle_contribution
   contribution_ok strategy true e k =
@@ -183,13 +183,13 @@ pub record Looped (encrypted : Bool) (n m i : ℕ) (w : List ℕ) (v d t : ℕ �
   pub outs : ((q : ℕ) → q < n → is_accepted w q ≡ true → is_out v d q ≡ true) → (q : ℕ) → q < n → is_accepted w' q ≡ true → is_out v d q ≡ true
 
 -- an output is of a value
-pub output_value : (a b : Option ℕ) (x : ℕ) → output_of a b ≡ some x → a ≡ some x
-output_value none b x e = let z : ◌≡◌ {A = ℕ} 0 1 = cc in absurd (omega arith)
-output_value (some v) none x e = let z : ◌≡◌ {A = ℕ} 0 1 = cc in absurd (omega arith)
-output_value (some v) (some zero) x e = let z : ◌≡◌ {A = ℕ} 0 1 = cc in absurd (omega arith)
-output_value (some v) (some (suc d)) x e = e
+pub output_value : (a b : Option ℕ) (x : ℕ) → output_of a b ≡ Some x → a ≡ Some x
+output_value None b x e = let z : ◌≡◌ {A = ℕ} 0 1 = cc in absurd (omega arith)
+output_value (Some v) None x e = let z : ◌≡◌ {A = ℕ} 0 1 = cc in absurd (omega arith)
+output_value (Some v) (Some zero) x e = let z : ◌≡◌ {A = ℕ} 0 1 = cc in absurd (omega arith)
+output_value (Some v) (Some (suc d)) x e = e
 
-output_there : (o : Option ℕ) (x : ℕ) → o ≡ some x → is_there o ≡ true
+output_there : (o : Option ℕ) (x : ℕ) → o ≡ Some x → is_there o ≡ true
 unfolding is_there
 output_there o x e = rw e
 
@@ -249,5 +249,5 @@ module _ (net : NetworkInfo) (strategy : SubsetHandlingStrategy) (encrypted : Bo
       p : ℕ
       p = get_or w (arrival_at N i) 0
 
-      entry : (p < N) × (output_of (v p) (d p) ≡ some (get_or w (value_at N p) 0))
+      entry : (p < N) × (output_of (v p) (d p) ≡ Some (get_or w (value_at N p) 0))
       entry = h.entries i p (omega arith) refl

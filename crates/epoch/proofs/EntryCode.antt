@@ -3,7 +3,7 @@ use Prim.Native.Nat.{ℕ}
 use mathlib.Core.Path.{◌≡◌, refl, sym, ◌∙◌}
 use mathlib.Core.List.{List, []}
 use mathlib.Core.Bool.{true, false, ◌&&◌, not}
-use mathlib.Core.Option.{Option, none}
+use Rattle.std.specs.Prelude.{Option, None}
 use lib.ListN.{get_or}
 use borrow.Author.Tests.{eq-eqb, ne_eqb}
 use Rattle.network.specs.declared.network_info.NetworkInfo.{NetworkInfo}
@@ -78,7 +78,7 @@ module _ (net : NetworkInfo) (p value : ℕ) (td : ThresholdDecrypt) (t : Tape) 
   unfolding input_ciphertext onward onward_as
   input_set n = rw (← k, n)
 
-  pub input_invalid : s.outcome ≡ Invalid → (o u : Out) → u ≡ put_entry o (fault 4 p 0) → leaves u (ends {A = Option ℕ} (going none) s.td q) ≡ leaves o (input_ciphertext net p value td t)
+  pub input_invalid : s.outcome ≡ Invalid → (o u : Out) → u ≡ put_entry o (fault 4 p 0) → leaves u (ends {A = Option ℕ} (going None) s.td q) ≡ leaves o (input_ciphertext net p value td t)
   unfolding input_ciphertext onward onward_as put_all
   input_invalid n o u m = rw (← k, n, m)
 

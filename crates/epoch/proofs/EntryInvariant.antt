@@ -3,7 +3,7 @@ use Prim.Native.Nat.{ℕ, ◌≤◌, ◌<◌}
 use mathlib.Core.Path.{◌≡◌, refl, sym, ap, ◌∙◌}
 use mathlib.Core.List.{List}
 use mathlib.Core.Bool.{Bool, true, false, cond, ◌||◌}
-use mathlib.Core.Option.{Option, none, some}
+use Rattle.std.specs.Prelude.{Option, None, Some}
 use native.Mathlib.Omega.{arith}
 use lib.ListN.{length, get_or}
 use lib.Dec.{eqb}
@@ -27,14 +27,14 @@ use Rattle.epochwords.proofs.EntryStored.{entry_tag, entry_plaintext, entry_ciph
 
 -- AN ENTRY, by whether the epoch is encrypted and its proposer is accepted, by its value v and by what was decrypted, t
 unfoldable pub TextOk : Bool → DecryptionState → Bool → Option ℕ → Option ℕ → Type 0
-TextOk true missing a v t = t ≡ none
-TextOk true (ongoing td) a v t = (t ≡ none) × ((td.ciphertext ≡ 0 → ⊥) → a ≡ true)
-TextOk true (complete x) a v t = (t ≡ some x) × (a ≡ true)
-TextOk false missing a v t = (t ≡ none) × (a ≡ false)
-TextOk false (ongoing td) a v t = (t ≡ none) × (td.ciphertext ≡ 0) × (a ≡ false)
-TextOk false (complete x) a v t = (t ≡ none) × (v ≡ some x) × (a ≡ true)
+TextOk true missing a v t = t ≡ None
+TextOk true (ongoing td) a v t = (t ≡ None) × ((td.ciphertext ≡ 0 → ⊥) → a ≡ true)
+TextOk true (complete x) a v t = (t ≡ Some x) × (a ≡ true)
+TextOk false missing a v t = (t ≡ None) × (a ≡ false)
+TextOk false (ongoing td) a v t = (t ≡ None) × (td.ciphertext ≡ 0) × (a ≡ false)
+TextOk false (complete x) a v t = (t ≡ None) × (v ≡ Some x) × (a ≡ true)
 
-none_some : {A : Type 0} (o : Option ℕ) (x : ℕ) → o ≡ none → o ≡ some x → A
+none_some : {A : Type 0} (o : Option ℕ) (x : ℕ) → o ≡ None → o ≡ Some x → A
 none_some o x e f = let z : ◌≡◌ {A = ℕ} 0 1 = cc in absurd (omega arith)
 
 -- of the same three words
@@ -55,10 +55,10 @@ text_words encrypted n w w' q a v t f =
         → TextOk e (cond x missing (cond y (ongoing (load_instance n w' q)) (complete (get_or w' (plaintext_at n q) 0)))) a v t
     go true true y h = h
     go true false true h = (h.0, λ z. h.1 (λ e. z (cipher ∙ e)))
-    go true false false h = (h.0 ∙ ap some (sym plain), h.1)
+    go true false false h = (h.0 ∙ ap Some (sym plain), h.1)
     go false true y h = h
     go false false true h = (h.0, cipher ∙ h.1, h.2)
-    go false false false h = (h.0, h.1 ∙ ap some (sym plain), h.2)
+    go false false false h = (h.0, h.1 ∙ ap Some (sym plain), h.2)
 
 -- of an entry that was stored
 module _ (n p : ℕ) (w : List ℕ) (inside : p < n) (size : length w ≡ epoch_length n) where
@@ -70,7 +70,7 @@ module _ (n p : ℕ) (w : List ℕ) (inside : p < n) (size : length w ≡ epoch_
   text_stored encrypted (complete x) a v t h = rw (entry_tag n p w 2 x new inside size, entry_plaintext n p w 2 x new inside size) h
 
 -- a value that is there stays
-pub text_value : (encrypted : Bool) (d : DecryptionState) (a : Bool) (v v' t : Option ℕ) → ((x : ℕ) → v ≡ some x → v' ≡ some x) → TextOk encrypted d a v t → TextOk encrypted d a v' t
+pub text_value : (encrypted : Bool) (d : DecryptionState) (a : Bool) (v v' t : Option ℕ) → ((x : ℕ) → v ≡ Some x → v' ≡ Some x) → TextOk encrypted d a v t → TextOk encrypted d a v' t
 unfolding TextOk
 text_value true missing a v v' t g h = h
 text_value true (ongoing td) a v v' t g h = h
@@ -104,11 +104,11 @@ pub opening_then : {t t' t'' : ℕ → Option ℕ} {who who' who'' : Option ℕ}
 opening_then a b = record { past = past_then decryption_kinds a.past b.past; text = λ q. a.text q ∙ b.text q }
 
 -- p's text is what it was or else o
-pub opening_ran : (t : ℕ → Option ℕ) (p : ℕ) (ws : List Rec) (o : Option ℕ) (r : List Rec) → Ran ws o r → Opening t (some p) ws (more t p o) (some p) r
+pub opening_ran : (t : ℕ → Option ℕ) (p : ℕ) (ws : List Rec) (o : Option ℕ) (r : List Rec) → Ran ws o r → Opening t (Some p) ws (more t p o) (Some p) r
 unfolding concerns
 opening_ran t p ws o r h = record {
   past = h.past;
-  text = λ q. ap (or_else (t q)) (h.opens q (some p)) ∙ link_more t p q o (first_decrypted q (some p) r);
+  text = λ q. ap (or_else (t q)) (h.opens q (Some p)) ∙ link_more t p q o (first_decrypted q (Some p) r);
 }
 
 -- WORDS THAT DIFFER in p's entry only
@@ -132,7 +132,7 @@ pub record Dealt (encrypted : Bool) (n p : ℕ) (w : List ℕ) (a : Bool) (v t :
   pub text : TextOk encrypted (load_decryption n w' p) a v (or_else t o)
 
 dealt_not : (encrypted : Bool) (n p : ℕ) (w : List ℕ) (a : Bool) (v t : Option ℕ) (ws : List Rec) → TextOk encrypted (load_decryption n w p) a v t → Dealt encrypted n p w a v t ws w ws
-dealt_not encrypted n p w a v t ws h = record { o = none; ran = record { opens = opens_none ws; past = past_same decryption_kinds ws }; stays = stays_same n p w; text = rw (or_else_none t) h }
+dealt_not encrypted n p w a v t ws h = record { o = None; ran = record { opens = opens_none ws; past = past_same decryption_kinds ws }; stays = stays_same n p w; text = rw (or_else_none t) h }
 
 module _ (net : NetworkInfo) (p : ℕ) (w : List ℕ) where
   pub process_after : (r : Run ThresholdDecrypt (Option ℕ)) (P : List ℕ → Tape → Type 0) → Afterwards r (λ o td z. P (store_decryption net.num_nodes w p (entry_after (going o) td)) z)
@@ -152,10 +152,10 @@ module _ (net : NetworkInfo) (p : ℕ) (w : List ℕ) where
 share_text : (encrypted : Bool) (td td' : ThresholdDecrypt) (o : Option ℕ) (a : Bool) (v t : Option ℕ) (ws r : List Rec) → TextOk encrypted (ongoing td) a v t → SharedWith td td' ws o r
     → TextOk encrypted (entry_after (going o) td') a v (or_else t o)
 unfolding TextOk entry_after or_else
-share_text true td td' none a v t ws r h s = (rw h.0, λ n. h.1 (λ z. n (s.keeps ∙ z)))
-share_text true td td' (some x) a v t ws r h s = (rw h.0, h.1 (λ z. none_some (some x) x (s.early z) refl))
-share_text false td td' none a v t ws r h s = (rw h.0, s.keeps ∙ h.1, h.2)
-share_text false td td' (some x) a v t ws r h s = none_some (some x) x (s.early h.1) refl
+share_text true td td' None a v t ws r h s = (rw h.0, λ n. h.1 (λ z. n (s.keeps ∙ z)))
+share_text true td td' (Some x) a v t ws r h s = (rw h.0, h.1 (λ z. none_some (Some x) x (s.early z) refl))
+share_text false td td' None a v t ws r h s = (rw h.0, s.keeps ∙ h.1, h.2)
+share_text false td td' (Some x) a v t ws r h s = none_some (Some x) x (s.early h.1) refl
 
 text_new : (encrypted : Bool) (a : Bool) (v t : Option ℕ) → TextOk encrypted missing a v t → TextOk encrypted (ongoing new) a v t
 unfolding TextOk
@@ -163,10 +163,10 @@ text_new true a v t h = (h, λ n. absurd (n refl))
 text_new false a v t h = (h.0, refl, h.1)
 
 -- a ciphertext is set for a proposer that is then accepted
-input_text : (td : ThresholdDecrypt) (o : Option ℕ) (v t : Option ℕ) → t ≡ none → TextOk true (entry_after (going o) td) true v (or_else t o)
+input_text : (td : ThresholdDecrypt) (o : Option ℕ) (v t : Option ℕ) → t ≡ None → TextOk true (entry_after (going o) td) true v (or_else t o)
 unfolding TextOk entry_after or_else
-input_text td none v t e = (rw e, λ n. refl)
-input_text td (some x) v t e = (rw e, refl)
+input_text td None v t e = (rw e, λ n. refl)
+input_text td (Some x) v t e = (rw e, refl)
 
 pub text_accept : (d : DecryptionState) (a : Bool) (v t : Option ℕ) → TextOk true d a v t → TextOk true d true v t
 unfolding TextOk
@@ -205,7 +205,7 @@ module _ (net : NetworkInfo) (p : ℕ) (w : List ℕ) (u : Tape) (inside : p < n
   unfolding call_entry asks load_entry load_decryption TextOk
   input_entry value a v t h = go (eqb (get_or w (decryption_at n p) 0) entry_none) (eqb (get_or w (decryption_at n p) 0) entry_ongoing) h
     where
-      from : (td : ThresholdDecrypt) → t ≡ none → Afterwards (process_decryption net p w (input_ciphertext net p value td u)) (λ _ w' z. Dealt true n p w true v t u.rest w' z.rest)
+      from : (td : ThresholdDecrypt) → t ≡ None → Afterwards (process_decryption net p w (input_ciphertext net p value td u)) (λ _ w' z. Dealt true n p w true v t u.rest w' z.rest)
       from td k =
           process_after net p w (input_ciphertext net p value td u) (λ w' z. Dealt true n p w true v t u.rest w' z.rest)
           (after_map (input_ciphertext net p value td u) _ _ (input_ran net p value td u) (λ o td' z s. record {

@@ -4,7 +4,7 @@ use mathlib.Core.Path.{◌≡◌, refl, sym, ap, ◌∙◌}
 use mathlib.Core.Logic.{◌⊎◌, inl, inr}
 use mathlib.Core.List.{List}
 use mathlib.Core.Bool.{Bool, true, false, cond, ◌&&◌, ◌||◌, not}
-use mathlib.Core.Option.{Option, none, some}
+use Rattle.std.specs.Prelude.{Option, None, Some}
 use native.Mathlib.Omega.{arith}
 use native.Mathlib.Nat.{zero-div}
 use lib.ListN.{get_or, replicate, length-replicate}
@@ -117,14 +117,14 @@ module _ (net : NetworkInfo) (strategy : SubsetHandlingStrategy) (encrypted : Bo
     accepted = λ q l. bit q ∙ s.accepted q l;
   })
 
-  told_dealt : CallTold Holds net strategy encrypted v d t (some p) false ws w' r
+  told_dealt : CallTold Holds net strategy encrypted v d t (Some p) false ws w' r
   told_dealt =
       let o = opening_ran t p ws a.o r a.ran in
       record {
         v' = v;
         d' = d;
         t' = more t p a.o;
-        who' = some p;
+        who' = Some p;
         holds = record { size = a.stays.size ∙ h.size; texts = λ q l. texts_dealt q l (eqb q p) refl; stage = stage_dealt h.stage };
         size = a.stays.size ∙ h.size;
         good = past_good decryption_kinds n a.ran.past g;
@@ -139,7 +139,7 @@ module _ (net : NetworkInfo) (strategy : SubsetHandlingStrategy) (encrypted : Bo
 pub accepted_framed : (n : ℕ) (w w₁ : List ℕ) → Frame n w w₁ → (q : ℕ) → is_accepted w₁ q ≡ is_accepted w q
 accepted_framed n w w₁ f q = accepted_kept w w₁ (f accepted_at (outside_accepted n)) q
 
-pub texts_framed : (net : NetworkInfo) (encrypted : Bool) (w w₁ : List ℕ) (v v' t : ℕ → Option ℕ) → TextsOk encrypted net.num_nodes w v t → ((q x : ℕ) → v q ≡ some x → v' q ≡ some x)
+pub texts_framed : (net : NetworkInfo) (encrypted : Bool) (w w₁ : List ℕ) (v v' t : ℕ → Option ℕ) → TextsOk encrypted net.num_nodes w v t → ((q x : ℕ) → v q ≡ Some x → v' q ≡ Some x)
     → Frame net.num_nodes w w₁ → TextsOk encrypted net.num_nodes w₁ v' t
 texts_framed net encrypted w w₁ v v' t h grown f q l =
     let n = net.num_nodes in
@@ -230,13 +230,13 @@ module _ (net : NetworkInfo) (strategy : SubsetHandlingStrategy) (encrypted : Bo
           (told_still net strategy encrypted w v d t who comes u.rest h g (voted_done net v d comes (settled_decided v d net.num_nodes s.settled) u.rest))
 
   share_ok : (sender p share : ℕ) → p < net.num_nodes → (u : Tape) → Good net.num_nodes u.rest
-      → Afterwards (handle_decryption_share net sender p share w u) (λ _ w' z. CallTold Holds net strategy encrypted v d t (some p) false u.rest w' z.rest)
+      → Afterwards (handle_decryption_share net sender p share w u) (λ _ w' z. CallTold Holds net strategy encrypted v d t (Some p) false u.rest w' z.rest)
   unfolding handle_decryption_share
   share_ok sender p share l u g =
       after_cond (is_complete w && not (is_accepted w p)) _ _ _
-      (told_still net strategy encrypted w v d t (some p) false u.rest h g (voted_still net v d (untold_same u.rest))) deals
+      (told_still net strategy encrypted w v d t (Some p) false u.rest h g (voted_still net v d (untold_same u.rest))) deals
     where
-      deals : Afterwards (call_entry net p (handle_share net p sender share) w u) (λ _ w' z. CallTold Holds net strategy encrypted v d t (some p) false u.rest w' z.rest)
+      deals : Afterwards (call_entry net p (handle_share net p sender share) w u) (λ _ w' z. CallTold Holds net strategy encrypted v d t (Some p) false u.rest w' z.rest)
       deals =
           after_map (call_entry net p (handle_share net p sender share) w u) _ _
           (share_entry net p w u l h.size encrypted sender share (is_accepted w p) (v p) (t p) (h.texts p l))
@@ -246,20 +246,20 @@ module _ (net : NetworkInfo) (strategy : SubsetHandlingStrategy) (encrypted : Bo
   pub handled_ok : (sender p : ℕ) (content : MessageContent) → p < net.num_nodes → (u : Tape) → Good net.num_nodes u.rest
       → Afterwards (handle_message_content net strategy encrypted sender p content w u) (λ _ w' z. CallTold Holds net strategy encrypted v d t (share_of p content) (not (is_there (share_of p content))) u.rest w' z.rest)
   unfolding handle_message_content share_of is_there
-  handled_ok sender p (Subset content) l u g = subset_ok true (handle_subset net 23 content p) (handles net content p) u none g
+  handled_ok sender p (Subset content) l u g = subset_ok true (handle_subset net 23 content p) (handles net content p) u None g
   handled_ok sender p (DecryptionShare share) l u g = share_ok sender p share l u g
 
   pub proposed_ok : (u : Tape) → Good net.num_nodes u.rest
-      → Afterwards (propose net strategy encrypted w u) (λ _ w' z. CallTold Holds net strategy encrypted v d t none (is_validator net) u.rest w' z.rest)
+      → Afterwards (propose net strategy encrypted w u) (λ _ w' z. CallTold Holds net strategy encrypted v d t None (is_validator net) u.rest w' z.rest)
   unfolding propose
   proposed_ok u g =
       after_ask u 2 w _ _ (λ a b z r.
       let two = reads_past serialised u 2 b z refl r in
       after_cond (eqb a 0) _ _ _ tt
       (after_map (call_subset net strategy encrypted (propose_subset net 22) w z) _ _
-      (subset_ok (is_validator net) (propose_subset net 22) (proposes net) z none (past_good serialised net.num_nodes two g)) (λ _ w' y k.
+      (subset_ok (is_validator net) (propose_subset net 22) (proposes net) z None (past_good serialised net.num_nodes two g)) (λ _ w' y k.
       told_before serialised (λ k e. rw (eqb-true k 2 e)) (λ k e. rw (eqb-true k 2 e)) (λ k e. rw (eqb-true k 2 e)) (λ k e. rw (eqb-true k 2 e)) (λ k e. rw (eqb-true k 2 e)) (λ k e. rw (eqb-true k 2 e))
-      net strategy encrypted v d t none (is_validator net) u.rest z.rest w' y.rest two k)))
+      net strategy encrypted v d t None (is_validator net) u.rest z.rest w' y.rest two k)))
     where
       serialised : ℕ → Bool
       serialised k = eqb k 2
@@ -274,7 +274,7 @@ none_accepted : (w : List ℕ) → get_or w accepted_at 0 ≡ 0 → (q : ℕ) �
 unfolding is_accepted has_bit
 none_accepted w e q = rw (e, zero-div (2 ^ q))
 
-none_text : (encrypted : Bool) → TextOk encrypted missing false none none
+none_text : (encrypted : Bool) → TextOk encrypted missing false None None
 unfolding TextOk
 none_text true = refl
 none_text false = (refl, refl)
@@ -323,11 +323,11 @@ unfolding is_settled is_open
 settled_open tag e = e
 
 text_word : (encrypted : Bool) (n : ℕ) (w : List ℕ) (q : ℕ) (a : Bool) (v t : Option ℕ) → is_settled (get_or w (decryption_at n q) 0) ≡ true → TextOk encrypted (load_decryption n w q) a v t
-    → cond encrypted t v ≡ some (get_or w (plaintext_at n q) 0)
+    → cond encrypted t v ≡ Some (get_or w (plaintext_at n q) 0)
 unfolding load_decryption is_settled TextOk
 text_word encrypted n w q a v t e h = go encrypted (rw (eqb-true (get_or w (decryption_at n q) 0) entry_complete e) at h)
   where
-    go : (c : Bool) → TextOk c (complete (get_or w (plaintext_at n q) 0)) a v t → cond c t v ≡ some (get_or w (plaintext_at n q) 0)
+    go : (c : Bool) → TextOk c (complete (get_or w (plaintext_at n q) 0)) a v t → cond c t v ≡ Some (get_or w (plaintext_at n q) 0)
     go true h = h.0
     go false h = h.1
 

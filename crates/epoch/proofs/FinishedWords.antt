@@ -3,7 +3,7 @@ use Prim.Native.Nat.{ℕ, zero, suc, ◌+◌, ◌-◌, ◌≤◌, ◌<◌}
 use mathlib.Core.Path.{◌≡◌, refl, sym, ap, ◌∙◌}
 use mathlib.Core.List.{List}
 use mathlib.Core.Bool.{Bool, true, false, cond, ◌&&◌, not, false≢true}
-use mathlib.Core.Option.{Option, none, some}
+use Rattle.std.specs.Prelude.{Option, None, Some}
 use native.Mathlib.Omega.{arith}
 use lib.ListN.{length, get_or, set, length-set}
 use lib.Seq.{get_or-set_same, get_or-set_other}
@@ -93,11 +93,11 @@ module _ (n : ℕ) where
           ∙ f j (omega arith) (omega arith)
 
 -- an output is of a complete proposal
-output_complete : (a b : Option ℕ) (x : ℕ) → output_of a b ≡ some x → state_of a b ≡ Complete true
-output_complete none b x e = let z : ◌≡◌ {A = ℕ} 0 1 = cc in absurd (omega arith)
-output_complete (some v) none x e = let z : ◌≡◌ {A = ℕ} 0 1 = cc in absurd (omega arith)
-output_complete (some v) (some zero) x e = let z : ◌≡◌ {A = ℕ} 0 1 = cc in absurd (omega arith)
-output_complete (some v) (some (suc d)) x e = refl
+output_complete : (a b : Option ℕ) (x : ℕ) → output_of a b ≡ Some x → state_of a b ≡ Complete true
+output_complete None b x e = let z : ◌≡◌ {A = ℕ} 0 1 = cc in absurd (omega arith)
+output_complete (Some v) None x e = let z : ◌≡◌ {A = ℕ} 0 1 = cc in absurd (omega arith)
+output_complete (Some v) (Some zero) x e = let z : ◌≡◌ {A = ℕ} 0 1 = cc in absurd (omega arith)
+output_complete (Some v) (Some (suc d)) x e = refl
 
 and_not : (x : Bool) → x && not x ≡ false
 and_not true = refl

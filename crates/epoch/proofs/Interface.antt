@@ -3,7 +3,7 @@ use Prim.Native.Nat.{ℕ, ◌≤◌, ◌<◌}
 use mathlib.Core.Path.{◌≡◌}
 use mathlib.Core.List.{List, [], ◌∷◌, ◌++◌}
 use mathlib.Core.Bool.{Bool, true, cond, not}
-use mathlib.Core.Option.{Option, none, some}
+use Rattle.std.specs.Prelude.{Option, None, Some}
 use lib.ListN.{length, get_or}
 use lib.Dec.{eqb}
 use Rattle.network.specs.declared.network_info.NetworkInfo.{NetworkInfo}
@@ -24,7 +24,7 @@ use Rattle.epochwords.specs.Batch.{is_ready, is_read}
 
 -- what has been taken in an epoch: nothing yet
 abbrev pub nothing : ℕ → Option ℕ
-nothing q = none
+nothing q = None
 
 -- the nodes of faults 5 among a list's records
 unfoldable pub fives_among : List Item → List ℕ
@@ -38,8 +38,8 @@ pub record Quiet (l : List Entry) : Type 0 where
 
 -- the proposer that a 12 concerns at a message's begin
 unfoldable pub share_of : ℕ → MessageContent → Option ℕ
-share_of p (Subset content) = none
-share_of p (DecryptionShare share) = some p
+share_of p (Subset content) = None
+share_of p (DecryptionShare share) = Some p
 
 -- v, d and t: the values, decisions and decrypted plaintexts taken so far, by proposer
 module _ (Holds : NetworkInfo → SubsetHandlingStrategy → Bool → List ℕ → (ℕ → Option ℕ) → (ℕ → Option ℕ) → (ℕ → Option ℕ) → Type 0) where
@@ -63,7 +63,7 @@ module _ (Holds : NetworkInfo → SubsetHandlingStrategy → Bool → List ℕ �
     pub decided : (q : ℕ) → q < net.num_nodes → is_there (d q) ≡ true
     pub read : (q : ℕ) → q < net.num_nodes → is_read (record_length net.num_nodes) w q ≡ is_true (d q)
     pub known : (q : ℕ) → q < net.num_nodes → is_true (d q) ≡ true → is_there (v q) ≡ true
-    pub plaintext : (q : ℕ) → q < net.num_nodes → is_true (d q) ≡ true → cond encrypted (t q) (v q) ≡ some (get_or w (plaintext_at net.num_nodes q) 0)
+    pub plaintext : (q : ℕ) → q < net.num_nodes → is_true (d q) ≡ true → cond encrypted (t q) (v q) ≡ Some (get_or w (plaintext_at net.num_nodes q) 0)
     pub enough : num_correct net ≤ ones_from d net.num_nodes 0
 
   -- what is to be shown of an epoch
@@ -72,7 +72,7 @@ module _ (Holds : NetworkInfo → SubsetHandlingStrategy → Bool → List ℕ �
         → Holds net strategy encrypted (new_epoch net.num_nodes) nothing nothing nothing
     pub proposed : (net : NetworkInfo) (strategy : SubsetHandlingStrategy) (encrypted : Bool) (w : List ℕ) (v d t : ℕ → Option ℕ) (p : Tape) → Network net
         → Holds net strategy encrypted w v d t → Good net.num_nodes p.rest
-        → Afterwards (propose net strategy encrypted w p) (λ _ w' q. CallTold net strategy encrypted v d t none (is_validator net) p.rest w' q.rest)
+        → Afterwards (propose net strategy encrypted w p) (λ _ w' q. CallTold net strategy encrypted v d t None (is_validator net) p.rest w' q.rest)
     pub handled : (net : NetworkInfo) (strategy : SubsetHandlingStrategy) (encrypted : Bool) (w : List ℕ) (v d t : ℕ → Option ℕ) (p : Tape) → Network net
         → (sender proposer : ℕ) (content : MessageContent) → sender < net.num_nodes → proposer < net.num_nodes
         → Holds net strategy encrypted w v d t → Good net.num_nodes p.rest

@@ -4,7 +4,7 @@ use mathlib.Core.Path.{◌≡◌, refl, sym, ap, ◌∙◌}
 use mathlib.Core.Logic.{◌⊎◌, inl, inr}
 use mathlib.Core.List.{List}
 use mathlib.Core.Bool.{Bool, true, false, cond, false≢true}
-use mathlib.Core.Option.{Option, none, some}
+use Rattle.std.specs.Prelude.{Option, None, Some}
 use native.Mathlib.Omega.{arith}
 use lib.ListN.{length, get_or, set, length-set}
 use lib.Seq.{get_or-set_same, get_or-set_other}
@@ -62,12 +62,12 @@ pub record Holds (net : NetworkInfo) (strategy : SubsetHandlingStrategy) (encryp
 -- WHAT IS SETTLED has its output
 out_true : (a b : Option ℕ) → Bit b → cell a b ≡ true → is_there (output_of a b) ≡ is_true b
 unfolding is_there is_true Bit
-out_true a none k e = absurd (false≢true e)
-out_true none (some zero) k e = refl
-out_true (some x) (some zero) k e = refl
-out_true none (some (suc zero)) k e = absurd (false≢true e)
-out_true (some x) (some (suc zero)) k e = refl
-out_true a (some (suc (suc d))) k e = absurd (omega arith)
+out_true a None k e = absurd (false≢true e)
+out_true None (Some zero) k e = refl
+out_true (Some x) (Some zero) k e = refl
+out_true None (Some (suc zero)) k e = absurd (false≢true e)
+out_true (Some x) (Some (suc zero)) k e = refl
+out_true a (Some (suc (suc d))) k e = absurd (omega arith)
 
 -- ALL CONTRIBUTIONS ARE HANDLED
 record AllHandled (encrypted : Bool) (n : ℕ) (w : List ℕ) (v d t : ℕ → Option ℕ) (who : Option ℕ) (ws : List Rec) (w' : List ℕ) (r : List Rec) : Type 0 where

@@ -4,7 +4,7 @@ use mathlib.Core.Path.{◌≡◌, refl, sym, ap, ◌∙◌}
 use mathlib.Core.Logic.{◌⊎◌, inl, inr}
 use mathlib.Core.List.{List}
 use mathlib.Core.Bool.{Bool, true, false, cond, ◌&&◌}
-use mathlib.Core.Option.{Option, none, some}
+use Rattle.std.specs.Prelude.{Option, None, Some}
 use native.Mathlib.Omega.{arith}
 use lib.ListN.{get_or, set}
 use lib.Seq.{get_or-set_other}
@@ -172,7 +172,7 @@ module _ (net : NetworkInfo) (strategy : SubsetHandlingStrategy) (encrypted : Bo
       x : ℕ
       x = get_or w (value_at N (get_or w (arrival_at N i) 0)) 0
 
-      entry : (p < N) × (output_of (v p) (d p) ≡ some (get_or w (value_at N p) 0))
+      entry : (p < N) × (output_of (v p) (d p) ≡ Some (get_or w (value_at N p) 0))
       entry = h.entries i p (omega arith) refl
 
       still : (w₁ : List ℕ) (r : List Rec) → Contributed encrypted N p w v t who u.rest w₁ r → (j : ℕ) → i + 1 ≤ j → j < i + 1 + m → is_accepted w₁ (get_or w₁ (arrival_at N j) 0) ≡ false
@@ -188,7 +188,7 @@ module _ (net : NetworkInfo) (strategy : SubsetHandlingStrategy) (encrypted : Bo
   contributions_tallied w u t h k acc =
       after_inside (first_contributions N 0) (handle_from net strategy encrypted (get_or w count_at 0) 0 w u) _
       (after_map (handle_from net strategy encrypted (get_or w count_at 0) 0 w u) _ _
-      (handle_tallied (get_or w count_at 0) 0 w u t none h k (omega arith) (λ j a b.
+      (handle_tallied (get_or w count_at 0) 0 w u t None h k (omega arith) (λ j a b.
       let p = get_or w (arrival_at N j) 0 in acc p (h.entries j p (omega arith) refl).0 ∙ h.fresh j (omega arith)))
       (λ _ w₁ z b q l.
       rw (accepted_kept w₁ (first_contributions N 0 w₁) (cut_word N w₁ accepted_at (λ e. omega arith) (λ q e. omega arith) (λ q e. omega arith)) q) (b q l)))
@@ -276,13 +276,13 @@ is_handled net strategy v d q = handles_now strategy (is_over net v d) && (is_tr
 
 out_is : (a b : Option ℕ) → Bit b → is_there (output_of a b) ≡ is_true b && is_there a
 unfolding is_there is_true Bit
-out_is none none k = refl
-out_is (some x) none k = refl
-out_is none (some zero) k = refl
-out_is (some x) (some zero) k = refl
-out_is none (some (suc zero)) k = refl
-out_is (some x) (some (suc zero)) k = refl
-out_is a (some (suc (suc d))) k = absurd (omega arith)
+out_is None None k = refl
+out_is (Some x) None k = refl
+out_is None (Some zero) k = refl
+out_is (Some x) (Some zero) k = refl
+out_is None (Some (suc zero)) k = refl
+out_is (Some x) (Some (suc zero)) k = refl
+out_is a (Some (suc (suc d))) k = absurd (omega arith)
 
 pub true_there : (a b : Option ℕ) → (is_true b ≡ true → is_there a ≡ true) → is_true b ≡ is_true b && is_there a
 true_there a b f = go (is_true b) refl
@@ -335,7 +335,7 @@ module _ (net : NetworkInfo) (strategy : SubsetHandlingStrategy) (encrypted : Bo
   proposed_counted u g =
       let run = propose net strategy encrypted w u in
       after_map run _ _ (after_both run _ _ (proposed_ok net strategy encrypted w v d t h u g) (proposed_tallied net strategy encrypted w v d t h u g)) (λ _ w' z k.
-      counted none _ u.rest w' z.rest k.0 k.1)
+      counted None _ u.rest w' z.rest k.0 k.1)
 
   pub handled_counted : (sender p : ℕ) (content : MessageContent) → p < net.num_nodes → (u : Tape) → Good net.num_nodes u.rest
       → Afterwards (handle_message_content net strategy encrypted sender p content w u) (λ _ w' z. Counted net strategy encrypted v d u.rest z.rest)

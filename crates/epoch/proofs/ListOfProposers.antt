@@ -4,7 +4,7 @@ use native.Mathlib.Omega.{arith}
 use mathlib.Core.Path.{◌≡◌, refl, ◌∙◌}
 use mathlib.Core.List.{List}
 use mathlib.Core.Bool.{Bool, true, false, cond}
-use mathlib.Core.Option.{Option, none, some}
+use Rattle.std.specs.Prelude.{Option, None, Some}
 use lib.ListN.{get_or, set}
 use lib.Seq.{get_or-set_other}
 use lib.Dec.{ltb}
@@ -62,8 +62,8 @@ module _ (n : ℕ) where
 
   listed_contributed : (w : List ℕ) (p : ℕ) (o : Option ℕ) → p < n → Listed n w → Listed n (contributed n w p o)
   unfolding contributed add_contribution
-  listed_contributed w p none l h = h
-  listed_contributed w p (some value) l h = go (ltb (count_of w) n) refl
+  listed_contributed w p None l h = h
+  listed_contributed w p (Some value) l h = go (ltb (count_of w) n) refl
     where
       go : (b : Bool) → ltb (count_of w) n ≡ b → Listed n (cond b (set (set (set w (arrival_at n (count_of w)) p) (value_at n p) value) count_at (count_of w + 1)) w)
       go true e = listed_added w p value (count_of w) l (ltb-true (count_of w) n e) h

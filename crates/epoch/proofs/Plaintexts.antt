@@ -5,7 +5,7 @@ use mathlib.Core.Logic.{◌⊎◌, inl, inr}
 use native.Mathlib.Omega.{arith}
 use mathlib.Core.List.{List, [], ◌∷◌}
 use mathlib.Core.Bool.{Bool, true, false, cond}
-use mathlib.Core.Option.{Option, none, some}
+use Rattle.std.specs.Prelude.{Option, None, Some}
 use lib.Dec.{leb, eqb}
 use borrow.Author.Tests.{eqb-true, eqb-false, ne_eqb, leb-true}
 use Rattle.network.specs.declared.network_info.NetworkInfo.{NetworkInfo}
@@ -29,36 +29,36 @@ abbrev pub Same : List Rec → List Rec → Type 0
 Same ws r = (q : ℕ) (who : Option ℕ) → first_decrypted q who ws ≡ first_decrypted q who r
 
 abbrev pub Opens : List Rec → Option ℕ → List Rec → Type 0
-Opens ws o r = (q : ℕ) (who : Option ℕ) → first_decrypted q who ws ≡ or_else (cond (concerns who q) o none) (first_decrypted q who r)
+Opens ws o r = (q : ℕ) (who : Option ℕ) → first_decrypted q who ws ≡ or_else (cond (concerns who q) o None) (first_decrypted q who r)
 
 pub reads_same : (p : Tape) (kind b : ℕ) (u : Tape) → eqb kind 8 ≡ false → eqb kind 12 ≡ false → Reads p kind b u → Same p.rest u.rest
 unfolding first_decrypted concerned_after or_else
 reads_same p kind b u x y h q who = rw (h.rests, h.of_kind, x, y)
 
-pub reads_eight : (p : Tape) (b : ℕ) (u : Tape) → Reads p 8 b u → (q : ℕ) (who : Option ℕ) → first_decrypted q who p.rest ≡ first_decrypted q (some b) u.rest
+pub reads_eight : (p : Tape) (b : ℕ) (u : Tape) → Reads p 8 b u → (q : ℕ) (who : Option ℕ) → first_decrypted q who p.rest ≡ first_decrypted q (Some b) u.rest
 unfolding first_decrypted concerned_after or_else
 reads_eight p b u h q who = rw (h.rests, h.of_kind, h.says)
 
 pub reads_past : (is : ℕ → Bool) (p : Tape) (kind b : ℕ) (u : Tape) → is kind ≡ true → Reads p kind b u → Past is p.rest u.rest
 reads_past is p kind b u e h = rw h.rests (past_one is h.first u.rest (ap is h.of_kind ∙ e))
 
-reads_twelve : (p : Tape) (b : ℕ) (u : Tape) → Reads p 12 b u → Opens p.rest (some b) u.rest
+reads_twelve : (p : Tape) (b : ℕ) (u : Tape) → Reads p 12 b u → Opens p.rest (Some b) u.rest
 unfolding first_decrypted concerned_after
 reads_twelve p b u h q who = rw (h.rests, h.of_kind, h.says)
 
-pub opens_none : (ws : List Rec) → Opens ws none ws
+pub opens_none : (ws : List Rec) → Opens ws None ws
 unfolding or_else
 opens_none ws q who = go (concerns who q)
   where
-    go : (x : Bool) → first_decrypted q who ws ≡ or_else (cond x none none) (first_decrypted q who ws)
+    go : (x : Bool) → first_decrypted q who ws ≡ or_else (cond x None None) (first_decrypted q who ws)
     go true = refl
     go false = refl
 
 -- AS A LOGIC OF RUNS: what was in hand and what is decrypted in ws is what is in hand then and decrypted in r
 abbrev pub Tells : Option ℕ → List Rec → Option ℕ → List Rec → Type 0
-Tells x ws y r = (q : ℕ) (who : Option ℕ) → or_else (cond (concerns who q) x none) (first_decrypted q who ws) ≡ or_else (cond (concerns who q) y none) (first_decrypted q who r)
+Tells x ws y r = (q : ℕ) (who : Option ℕ) → or_else (cond (concerns who q) x None) (first_decrypted q who ws) ≡ or_else (cond (concerns who q) y None) (first_decrypted q who r)
 
-tells_opens : (ws r : List Rec) (o : Option ℕ) → Tells none ws o r → Opens ws o r
+tells_opens : (ws r : List Rec) (o : Option ℕ) → Tells None ws o r → Opens ws o r
 tells_opens ws r o h q who = opens_none ws q who ∙ h q who
 
 abbrev pub texts : Terms
@@ -74,9 +74,9 @@ texts = record {
 
 -- an answer of another kind, and a 12
 tells_after : (x y : Option ℕ) (p : Tape) (kind b : ℕ) (u : Tape) (z : List Rec) → (eqb kind 8 ≡ false) × (eqb kind 12 ≡ false) → Reads p kind b u → Tells x u.rest y z → Tells x p.rest y z
-tells_after x y p kind b u z e r h q who = ap (or_else (cond (concerns who q) x none)) (reads_same p kind b u e.0 e.1 r q who) ∙ h q who
+tells_after x y p kind b u z e r h q who = ap (or_else (cond (concerns who q) x None)) (reads_same p kind b u e.0 e.1 r q who) ∙ h q who
 
-tells_text : (y : Option ℕ) (p : Tape) (b : ℕ) (u : Tape) (z : List Rec) → Reads p 12 b u → Tells (some b) u.rest y z → Tells none p.rest y z
+tells_text : (y : Option ℕ) (p : Tape) (b : ℕ) (u : Tape) (z : List Rec) → Reads p 12 b u → Tells (Some b) u.rest y z → Tells None p.rest y z
 tells_text y p b u z r h q who = sym (opens_none p.rest q who) ∙ reads_twelve p b u r q who ∙ h q who
 
 abbrev telling : (S : Type 0) → Logic texts S
@@ -127,7 +127,7 @@ pub record Ran (ws : List Rec) (o : Option ℕ) (r : List Rec) : Type 0 where
 -- and a share's, with the instance before and after it
 pub record SharedWith (td td' : ThresholdDecrypt) (ws : List Rec) (o : Option ℕ) (r : List Rec) : Type 0 where
   pub ran : Ran ws o r
-  pub early : td.ciphertext ≡ 0 → o ≡ none
+  pub early : td.ciphertext ≡ 0 → o ≡ None
   pub keeps : td'.ciphertext ≡ td.ciphertext
 
 module _ (net : NetworkInfo) (proposer : ℕ) where
@@ -158,6 +158,6 @@ module _ (net : NetworkInfo) (proposer : ℕ) where
       (after_both run _ _ (share_opens sender share td p) (go (eqb td.ciphertext 0) refl)))
       (λ o td' z h. record { ran = record { opens = h.0.0; past = h.1.0 }; early = h.0.1; keeps = h.1.1 })
     where
-      go : (x : Bool) → eqb td.ciphertext 0 ≡ x → Afterwards (handle_share net proposer sender share td p) (λ o td' z. td.ciphertext ≡ 0 → o ≡ none)
+      go : (x : Bool) → eqb td.ciphertext 0 ≡ x → Afterwards (handle_share net proposer sender share td p) (λ o td' z. td.ciphertext ≡ 0 → o ≡ None)
       go true e = rw (early_none net proposer sender share td p (eqb-true _ _ e)) (λ z. refl)
       go false e = after_any (handle_share net proposer sender share td p) _ (λ o td' z n. absurd (eqb-false td.ciphertext 0 e n))

@@ -3,7 +3,7 @@ use Prim.Native.Nat.{ℕ, ◌+◌, ◌<◌, ◌≤◌}
 use mathlib.Core.Path.{◌≡◌, refl, ◌∙◌}
 use mathlib.Core.List.{List}
 use mathlib.Core.Bool.{Bool, true, false, cond, ◌&&◌, ◌||◌}
-use mathlib.Core.Option.{Option, none, some}
+use Rattle.std.specs.Prelude.{Option, None, Some}
 use native.Mathlib.Omega.{arith}
 use lib.ListN.{get_or, set}
 use lib.Seq.{get_or-set_other}
@@ -155,8 +155,8 @@ module _ (n : ℕ) (w₀ w : List ℕ) (f : Frame n w₀ w) where
 
   frame_contributed : (p : ℕ) (x : Option ℕ) → Frame n w₀ (contributed n w p x)
   unfolding contributed
-  frame_contributed p none = f
-  frame_contributed p (some x) = frame_add p x
+  frame_contributed p None = f
+  frame_contributed p (Some x) = frame_add p x
 
   frame_decided : (x : ℕ) → Frame n w₀ (set w decided_at x)
   frame_decided x i o = get_or-set_other w decided_at i x 0 o.decided ∙ f i o

@@ -3,7 +3,7 @@ use Prim.Native.Nat.{ℕ, ◌≤◌, ◌<◌}
 use mathlib.Core.Path.{refl}
 use mathlib.Core.List.{List}
 use mathlib.Core.Bool.{Bool}
-use mathlib.Core.Option.{Option, none, some}
+use Rattle.std.specs.Prelude.{Option, None, Some}
 use native.Mathlib.Omega.{arith}
 use Rattle.network.specs.declared.network_info.NetworkInfo.{NetworkInfo}
 use Rattle.steps.specs.Runs.{Verdict, going, refused, failed}
@@ -27,19 +27,19 @@ ContentOk (DecryptionShare share) = share < 0x1_0000_0000
 
 entry_after_ok : (v : Verdict (Option ℕ)) (td : ThresholdDecrypt) → InstanceOk td → Says SmallOption v → EntryOk (entry_after v td)
 unfolding entry_after EntryOk Says SmallOption
-entry_after_ok (going none) td h u = h
-entry_after_ok (going (some plaintext)) td h u = u
+entry_after_ok (going None) td h u = h
+entry_after_ok (going (Some plaintext)) td h u = u
 entry_after_ok refused td h u = h
 entry_after_ok (failed error) td h u = h
 
-module _ (n : ℕ) (some : 0 < n) where
+module _ (n : ℕ) (Some : 0 < n) where
   pub new_epoch_ok : EpochOk n (new_epoch n)
   unfolding new_epoch limit_at
-  new_epoch_ok = set_own n _ status_at 1 (below_zeros (limit_at n) (epoch_length n) (λ i. limit_some n i some)) (omega arith)
+  new_epoch_ok = set_own n _ status_at 1 (below_zeros (limit_at n) (epoch_length n) (λ i. limit_some n i Some)) (omega arith)
 
   first_ok : (k : ℕ) (w : List ℕ) → k ≤ n → EpochOk n w → EpochOk n (first_contributions n k w)
   unfolding first_contributions limit_at
-  first_ok k w l h = set_own n _ count_at k (drop_ok n _ k w some h) (omega arith)
+  first_ok k w l h = set_own n _ count_at k (drop_ok n _ k w Some h) (omega arith)
 
   done_ok : (w : List ℕ) → EpochOk n w → EpochOk n (subset_complete w)
   unfolding subset_complete limit_at
@@ -47,9 +47,9 @@ module _ (n : ℕ) (some : 0 < n) where
 
   dropped_ok : (w : List ℕ) (p : ℕ) → EpochOk n w → EpochOk n (proposal_dropped n w p)
   unfolding proposal_dropped
-  dropped_ok w p h = set_own n _ (value_at n p) 0 (set_own n w (proposal_at n p) 0 h (limit_some n _ some)) (limit_some n _ some)
+  dropped_ok w p h = set_own n _ (value_at n p) 0 (set_own n w (proposal_at n p) 0 h (limit_some n _ Some)) (limit_some n _ Some)
 
-module _ (n : ℕ) (some : 0 < n) (few : n ≤ 16) where
+module _ (n : ℕ) (Some : 0 < n) (few : n ≤ 16) where
   rules : Rules (small n) (keeping n InstanceOk) (keeping n (EpochOk n)) n (keeping n ProposalOk)
   unfolding SmallOption EntryOk limit_at
   rules = record {
@@ -70,22 +70,22 @@ module _ (n : ℕ) (some : 0 < n) (few : n ≤ 16) where
     };
     finishes = record {
       late = λ a. tt;
-      finished = λ p w h u. (dropped_ok n some w p h, tt);
-      unexpected = λ p w h u. (store_entry_ok n p _ missing tt (dropped_ok n some w p h), tt);
+      finished = λ p w h u. (dropped_ok n Some w p h, tt);
+      unexpected = λ p w h u. (store_entry_ok n p _ missing tt (dropped_ok n Some w p h), tt);
     };
-    emptied = λ m w t r g h o u. kept_inside (first_contributions n 0) r (λ w k. first_ok n some 0 w (omega arith) k) (g h o u);
-    cut = λ m w t r g h o u. kept_inside (first_contributions n (count_of w)) r (λ v k. first_ok n some (count_of w) v (omega (arith, h.below count_at)) k) (g h o u);
-    done = λ w h u. (done_ok n some w h, tt);
+    emptied = λ m w t r g h o u. kept_inside (first_contributions n 0) r (λ w k. first_ok n Some 0 w (omega arith) k) (g h o u);
+    cut = λ m w t r g h o u. kept_inside (first_contributions n (count_of w)) r (λ v k. first_ok n Some (count_of w) v (omega (arith, h.below count_at)) k) (g h o u);
+    done = λ w h u. (done_ok n Some w h, tt);
   }
 
 -- THE EPOCH'S TWO CALLS
-module _ (net : NetworkInfo) (some : 0 < net.num_nodes) (few : net.num_nodes ≤ 16) (strategy : SubsetHandlingStrategy) (encrypted : Bool) where
+module _ (net : NetworkInfo) (Some : 0 < net.num_nodes) (few : net.num_nodes ≤ 16) (strategy : SubsetHandlingStrategy) (encrypted : Bool) where
   pub propose_safe : SafeEpoch net.num_nodes (propose net strategy encrypted)
   unfolding SmallOption
-  propose_safe w tape h o = kept_any (propose_keeps _ _ _ net _ (rules _ some few) strategy encrypted refl tt tt w tape h o tt)
+  propose_safe w tape h o = kept_any (propose_keeps _ _ _ net _ (rules _ Some few) strategy encrypted refl tt tt w tape h o tt)
 
   pub content_safe : (sender p : ℕ) (content : MessageContent) → p < net.num_nodes → ContentOk content
       → SafeEpoch net.num_nodes (handle_message_content net strategy encrypted sender p content)
   unfolding SmallOption ContentOk
   content_safe sender p content l u w tape h o =
-      kept_any (content_keeps _ _ _ net _ (rules _ some few) strategy encrypted tt sender p content l (λ share e. rw e at u) w tape h o tt)
+      kept_any (content_keeps _ _ _ net _ (rules _ Some few) strategy encrypted tt sender p content l (λ share e. rw e at u) w tape h o tt)

@@ -4,7 +4,7 @@ use native.Mathlib.Omega.{arith}
 use mathlib.Core.Path.{◌≡◌}
 use mathlib.Core.List.{List}
 use mathlib.Core.Bool.{Bool, true, false, cond}
-use mathlib.Core.Option.{Option, none, some}
+use Rattle.std.specs.Prelude.{Option, None, Some}
 use lib.ListN.{get_or, set}
 use lib.Dec.{ltb}
 use Rattle.network.specs.declared.network_info.NetworkInfo.{NetworkInfo}
@@ -32,8 +32,8 @@ module _ (P : List ℕ → Type 0) (other : (w : List ℕ) (i x : ℕ) → (i �
 
     keeps_contributed : (w : List ℕ) (p : ℕ) (o : Option ℕ) → P w → P (contributed n w p o)
     unfolding contributed add_contribution
-    keeps_contributed w p none h = h
-    keeps_contributed w p (some value) h = go (ltb (get_or w count_at 0) n)
+    keeps_contributed w p None h = h
+    keeps_contributed w p (Some value) h = go (ltb (get_or w count_at 0) n)
       where
         go : (t : Bool) → P (cond t (set (set (set w (arrival_at n (get_or w count_at 0)) p) (value_at n p) value) count_at (get_or w count_at 0 + 1)) w)
         go true = other _ count_at _ (λ e. omega arith) (other _ (value_at n p) value (λ e. omega arith) (other w (arrival_at n (get_or w count_at 0)) p (λ e. omega arith) h))

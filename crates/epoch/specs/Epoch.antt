@@ -1,6 +1,6 @@
 -- An epoch over its words, after epoch_state.rs: a definition for each function, in its name.
 use Rattle.std.specs.Prelude.{ℕ, zero, suc, ◌+◌, ◌-◌, List, [], ◌∷◌, ◌++◌, Bool, true, cond, ◌&&◌, not, get_or, set, eqb}
-use Rattle.std.proofs.Math.Option.{Option, none, some}
+use Rattle.std.specs.Prelude.{Option, None, Some}
 use Rattle.steps.specs.Numbers.{proposal_serialised, ciphertext_reads, unexpected_decryption_share, deserialize_ciphertext, invalid_ciphertext, propose_bincode, input_subset, handle_subset_message}
 use Rattle.network.specs.declared.network_info.NetworkInfo.{NetworkInfo}
 use Rattle.steps.specs.Answers.{Tape, ask, ask_about}
@@ -31,8 +31,8 @@ first_contributions n k w = set (drop_from n (count_of w - k) k w) count_at k
 
 -- the entry after a call of threshold decryption: a plaintext completes it; after a failure it is as the call left it
 unfoldable pub entry_after : Verdict (Option ℕ) → ThresholdDecrypt → DecryptionState
-entry_after (going none) td = ongoing td
-entry_after (going (some plaintext)) td = complete plaintext
+entry_after (going None) td = ongoing td
+entry_after (going (Some plaintext)) td = complete plaintext
 entry_after refused td = ongoing td
 entry_after (failed error) td = ongoing td
 
@@ -82,7 +82,7 @@ module _ (net : NetworkInfo) where
   unfoldable pub input_ciphertext : ℕ → ℕ → ThresholdDecrypt → Tape → Run ThresholdDecrypt (Option ℕ)
   input_ciphertext p value td tape =
       onward (set_ciphertext p value td tape) (λ verified td tape.
-      cond verified (start_decryption net p td tape) (before (fault invalid_ciphertext p 0 ∷ []) (ends (going none) td tape)))
+      cond verified (start_decryption net p td tape) (before (fault invalid_ciphertext p 0 ∷ []) (ends (going None) td tape)))
 
   -- a ciphertext that does not read is fault 3, and there is no entry for it
   unfoldable pub send_decryption_share : ℕ → ℕ → List ℕ → Tape → Run (List ℕ) (Unit {0})

@@ -1,6 +1,6 @@
 -- What each enum of an epoch stands for, and what its functions leave.
 use Rattle.std.specs.Prelude.{ℕ, ◌<◌, List, Bool, true, false, cond, eqb}
-use Rattle.std.proofs.Math.Option.{Option, none, some}
+use Rattle.std.specs.Prelude.{Option, None, Some}
 use Rattle.network.specs.declared.network_info.NetworkInfo.{NetworkInfo}
 use Rattle.steps.specs.Numbers.{proposal_serialised, propose_bincode, input_subset, handle_subset_message}
 use Rattle.steps.specs.Answers.{Tape, ask}
@@ -31,8 +31,8 @@ outcome_verdict (Failed error) = failed error
 
 -- a call of a decryption entry has no plaintext yet, or the plaintext
 abbrev pub called_verdict : Called → Verdict (Option ℕ)
-called_verdict Nothing = going none
-called_verdict (Plaintext h) = going (some h)
+called_verdict Nothing = going None
+called_verdict (Plaintext h) = going (Some h)
 called_verdict NotCalled = refused
 called_verdict (CallFailed error) = failed error
 

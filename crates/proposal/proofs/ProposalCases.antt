@@ -3,7 +3,7 @@ use Prim.Native.Nat.{ℕ}
 use mathlib.Core.Path.{refl}
 use mathlib.Core.List.{List, [], ◌∷◌}
 use mathlib.Core.Bool.{true, false}
-use mathlib.Core.Option.{Option, none, some}
+use Rattle.std.specs.Prelude.{Option, None, Some}
 use lib.ListN.{length}
 use Rattle.steps.specs.Steps.{Item}
 use Rattle.steps.specs.Runs.{Verdict, going, refused, failed, Run}
@@ -44,51 +44,51 @@ Rows = List (Row Op Seen)
 abbrev pub ongoing : Rows
 ongoing =
     -- a broadcast message may bring the value, and then propose(true) is asked at once
-    (broadcast (yes 4 0 ∷ []) ⇒ moved (going none) Ongoing 0)
+    (broadcast (yes 4 0 ∷ []) ⇒ moved (going None) Ongoing 0)
     ∷ (broadcast (yes 4 0 ∷ out 7 ∷ []) ⇒ moved refused (HasValue 7) 0)
-    ∷ (broadcast (yes 4 0 ∷ out 7 ∷ yes 6 0 ∷ []) ⇒ moved (going none) (HasValue 7) 0)
-    ∷ (broadcast (yes 4 0 ∷ out 7 ∷ yes 6 0 ∷ out 1 ∷ []) ⇒ moved (going (some 7)) (Complete true) 0)
-    ∷ (broadcast (yes 4 0 ∷ out 7 ∷ yes 6 0 ∷ out 0 ∷ []) ⇒ moved (going none) (Complete false) 0)
-    ∷ (own (yes 3 0 ∷ out 7 ∷ yes 6 0 ∷ []) ⇒ moved (going none) (HasValue 7) 0)
+    ∷ (broadcast (yes 4 0 ∷ out 7 ∷ yes 6 0 ∷ []) ⇒ moved (going None) (HasValue 7) 0)
+    ∷ (broadcast (yes 4 0 ∷ out 7 ∷ yes 6 0 ∷ out 1 ∷ []) ⇒ moved (going (Some 7)) (Complete true) 0)
+    ∷ (broadcast (yes 4 0 ∷ out 7 ∷ yes 6 0 ∷ out 0 ∷ []) ⇒ moved (going None) (Complete false) 0)
+    ∷ (own (yes 3 0 ∷ out 7 ∷ yes 6 0 ∷ []) ⇒ moved (going None) (HasValue 7) 0)
     -- the answer must be of the kind wanted and about the proposer
     ∷ (own (yes 4 0 ∷ []) ⇒ moved refused Ongoing 1)
     ∷ (broadcast (yes 4 1 ∷ []) ⇒ moved refused Ongoing 1)
     -- of several outputs the last counts
-    ∷ (broadcast (yes 4 0 ∷ out 6 ∷ out 7 ∷ yes 6 0 ∷ out 0 ∷ out 1 ∷ []) ⇒ moved (going (some 7)) (Complete true) 0)
+    ∷ (broadcast (yes 4 0 ∷ out 6 ∷ out 7 ∷ yes 6 0 ∷ out 0 ∷ out 1 ∷ []) ⇒ moved (going (Some 7)) (Complete true) 0)
     -- "If propose(true) fails after a value, the proposal keeps HasValue"
     ∷ (broadcast (yes 4 0 ∷ out 7 ∷ no 6 0 ∷ []) ⇒ moved (failed 23) (HasValue 7) 0)
     ∷ (broadcast (no 4 0 ∷ []) ⇒ moved (failed 23) Ongoing 0)
     ∷ (own (no 3 0 ∷ []) ⇒ moved (failed 22) Ongoing 0)
     -- an agreement message may bring the decision
-    ∷ (agreement (yes 5 0 ∷ []) ⇒ moved (going none) Ongoing 0)
-    ∷ (agreement (yes 5 0 ∷ out 1 ∷ []) ⇒ moved (going none) Accepted 0)
-    ∷ (agreement (yes 5 0 ∷ out 1 ∷ out 0 ∷ []) ⇒ moved (going none) (Complete false) 0)
+    ∷ (agreement (yes 5 0 ∷ []) ⇒ moved (going None) Ongoing 0)
+    ∷ (agreement (yes 5 0 ∷ out 1 ∷ []) ⇒ moved (going None) Accepted 0)
+    ∷ (agreement (yes 5 0 ∷ out 1 ∷ out 0 ∷ []) ⇒ moved (going None) (Complete false) 0)
     ∷ (agreement (no 5 0 ∷ []) ⇒ moved (failed 23) Ongoing 0)
-    ∷ (vote (yes 7 0 ∷ out 1 ∷ []) ⇒ moved (going none) Accepted 0)
+    ∷ (vote (yes 7 0 ∷ out 1 ∷ []) ⇒ moved (going None) Accepted 0)
     ∷ []
 
 -- "No outside call is made in HasValue for broadcast, in Accepted for agreement, in Complete at all."
 abbrev pub has_value : Rows
 has_value =
-    (agreement (yes 5 0 ∷ []) ⇒ moved (going none) (HasValue 7) 0)
-    ∷ (agreement (yes 5 0 ∷ out 1 ∷ []) ⇒ moved (going (some 7)) (Complete true) 0)
-    ∷ (agreement (yes 5 0 ∷ out 0 ∷ []) ⇒ moved (going none) (Complete false) 0)
-    ∷ (vote (yes 7 0 ∷ out 1 ∷ []) ⇒ moved (going (some 7)) (Complete true) 0)
-    ∷ (broadcast (yes 4 0 ∷ []) ⇒ moved (going none) (HasValue 7) 1)
+    (agreement (yes 5 0 ∷ []) ⇒ moved (going None) (HasValue 7) 0)
+    ∷ (agreement (yes 5 0 ∷ out 1 ∷ []) ⇒ moved (going (Some 7)) (Complete true) 0)
+    ∷ (agreement (yes 5 0 ∷ out 0 ∷ []) ⇒ moved (going None) (Complete false) 0)
+    ∷ (vote (yes 7 0 ∷ out 1 ∷ []) ⇒ moved (going (Some 7)) (Complete true) 0)
+    ∷ (broadcast (yes 4 0 ∷ []) ⇒ moved (going None) (HasValue 7) 1)
     ∷ []
 
 -- no vote when the value comes
 abbrev pub accepted : Rows
 accepted =
-    (broadcast (yes 4 0 ∷ []) ⇒ moved (going none) Accepted 0)
-    ∷ (broadcast (yes 4 0 ∷ out 7 ∷ yes 6 0 ∷ []) ⇒ moved (going (some 7)) (Complete true) 1)
-    ∷ (agreement (yes 5 0 ∷ []) ⇒ moved (going none) Accepted 1)
+    (broadcast (yes 4 0 ∷ []) ⇒ moved (going None) Accepted 0)
+    ∷ (broadcast (yes 4 0 ∷ out 7 ∷ yes 6 0 ∷ []) ⇒ moved (going (Some 7)) (Complete true) 1)
+    ∷ (agreement (yes 5 0 ∷ []) ⇒ moved (going None) Accepted 1)
     ∷ []
 
 abbrev pub complete : Rows
 complete =
-    (broadcast (yes 4 0 ∷ []) ⇒ moved (going none) (Complete true) 1)
-    ∷ (agreement (yes 5 0 ∷ []) ⇒ moved (going none) (Complete true) 1)
+    (broadcast (yes 4 0 ∷ []) ⇒ moved (going None) (Complete true) 1)
+    ∷ (agreement (yes 5 0 ∷ []) ⇒ moved (going None) (Complete true) 1)
     ∷ []
 
 -- THE TABLE

@@ -3,7 +3,7 @@ use Prim.Native.Nat.{ℕ}
 use mathlib.Core.Path.{◌≡◌, refl, ap, ◌∙◌}
 use mathlib.Core.List.{List}
 use mathlib.Core.Bool.{true, false}
-use mathlib.Core.Option.{Option, none, some}
+use Rattle.std.specs.Prelude.{Option, None, Some}
 use borrow.Author.Tests.{eq-eqb, ne_eqb}
 use Rattle.steps.specs.declared.reader.Answer.{Answer}
 use Rattle.steps.specs.declared.reader.Answer.TheVariants.{Got, Refused as NoAnswer}
@@ -37,8 +37,8 @@ unfolding put_all
 ends_with q w e = rw e
 
 going_on : (v : Option ℕ) → verdict (outcome_of v) ≡ going v
-going_on none = refl
-going_on (some x) = refl
+going_on None = refl
+going_on (Some x) = refl
 
 pub moves_to : {r : Transition} (m : Moved) {step : Step} (q : Tape) (w : List ℕ) → r ≡ transition_of m step → left r q w ≡ leaves (out step w) (moved_to m q)
 unfolding put_all
@@ -67,7 +67,7 @@ module _ (error p kind : ℕ) (content : Content) (s : ProposalState) (t : Tape)
 
 -- WHETHER IT IS ASKED
 module _ (error p kind : ℕ) (s : ProposalState) (t : Tape) where
-  pub agreement_off : asks_agreement s ≡ false → handle_agreement error p kind s t ≡ ends (going none) s t
+  pub agreement_off : asks_agreement s ≡ false → handle_agreement error p kind s t ≡ ends (going None) s t
   unfolding handle_agreement
   agreement_off e = rw e
 
@@ -76,7 +76,7 @@ module _ (error p kind : ℕ) (s : ProposalState) (t : Tape) where
   unfolding handle_agreement answer_agreement
   agreement_on e = rw e
 
-  pub broadcast_off : asks_broadcast s ≡ false → handle_broadcast error p kind s t ≡ ends (going none) s t
+  pub broadcast_off : asks_broadcast s ≡ false → handle_broadcast error p kind s t ≡ ends (going None) s t
   unfolding handle_broadcast
   broadcast_off e = rw e
 
@@ -87,7 +87,7 @@ module _ (error p kind : ℕ) (s : ProposalState) (t : Tape) where
 
 -- THE VALUE
 module _ (error p : ℕ) (t : Tape) where
-  pub value_missing : (s : ProposalState) → after_value error p s Missing t ≡ ends (going none) s t
+  pub value_missing : (s : ProposalState) → after_value error p s Missing t ≡ ends (going None) s t
   unfolding after_value after_broadcast
   value_missing Ongoing = refl
   value_missing (HasValue v) = refl
@@ -98,6 +98,6 @@ module _ (error p : ℕ) (t : Tape) where
   unfolding after_value after_broadcast vote_true asks_agreement handle_agreement
   value_votes v = refl
 
-  pub value_output : (v : ℕ) → after_value error p Accepted (Value v) t ≡ ends (going (some v)) (Complete true) t
+  pub value_output : (v : ℕ) → after_value error p Accepted (Value v) t ≡ ends (going (Some v)) (Complete true) t
   unfolding after_value after_broadcast vote_true asks_agreement
   value_output v = refl

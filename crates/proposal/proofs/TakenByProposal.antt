@@ -4,7 +4,7 @@ use mathlib.Core.Path.{◌≡◌, refl, sym, ap, ◌∙◌}
 use mathlib.Core.Logic.{◌≢◌}
 use mathlib.Core.List.{List, [], ◌∷◌}
 use mathlib.Core.Bool.{Bool, true, false, cond, ◌&&◌, ◌||◌, not, false≢true}
-use mathlib.Core.Option.{Option, none, some}
+use Rattle.std.specs.Prelude.{Option, None, Some}
 use native.Mathlib.Omega.{arith}
 use lib.Dec.{eqb}
 use borrow.Author.Tests.{eqb-true, eqb-false, ne_eqb}
@@ -27,19 +27,19 @@ use Rattle.steps.proofs.AfterRun.{Afterwards, after_map, after_onward}
 
 -- the state of a proposal whose value and decision taken so far are these
 abbrev pub state_of : Option ℕ → Option ℕ → ProposalState
-state_of none none = Ongoing
-state_of (some v) none = HasValue v
-state_of none (some zero) = Complete false
-state_of (some v) (some zero) = Complete false
-state_of none (some (suc d)) = Accepted
-state_of (some v) (some (suc d)) = Complete true
+state_of None None = Ongoing
+state_of (Some v) None = HasValue v
+state_of None (Some zero) = Complete false
+state_of (Some v) (Some zero) = Complete false
+state_of None (Some (suc d)) = Accepted
+state_of (Some v) (Some (suc d)) = Complete true
 
 -- the value that it has output
 abbrev pub output_of : Option ℕ → Option ℕ → Option ℕ
-output_of none d = none
-output_of (some v) none = none
-output_of (some v) (some zero) = none
-output_of (some v) (some (suc d)) = some v
+output_of None d = None
+output_of (Some v) None = None
+output_of (Some v) (Some zero) = None
+output_of (Some v) (Some (suc d)) = Some v
 
 module _ (n error p k : ℕ) (content : Content) (i : Instance k) (s : ProposalState) where
   -- an instance's answer, where there is one
@@ -78,27 +78,27 @@ pub record Agreed (n k p : ℕ) (v : Option ℕ) (ws : List Rec) (o : Option ℕ
   pub state : s ≡ state_of v answer
   pub out : o ≡ output_of v answer
 
-agree_move : (v : Option ℕ) (out : Output) → after_agreement (state_of v none) out ≡ moved (state_of v (option_of out)) (output_of v (option_of out))
+agree_move : (v : Option ℕ) (out : Output) → after_agreement (state_of v None) out ≡ moved (state_of v (option_of out)) (output_of v (option_of out))
 unfolding after_agreement option_of
-agree_move none Missing = refl
-agree_move none (Value zero) = refl
-agree_move none (Value (suc d)) = rw (ne_eqb (suc d) 0 (λ e. omega arith))
-agree_move (some v) Missing = refl
-agree_move (some v) (Value zero) = refl
-agree_move (some v) (Value (suc d)) = rw (ne_eqb (suc d) 0 (λ e. omega arith))
+agree_move None Missing = refl
+agree_move None (Value zero) = refl
+agree_move None (Value (suc d)) = rw (ne_eqb (suc d) 0 (λ e. omega arith))
+agree_move (Some v) Missing = refl
+agree_move (Some v) (Value zero) = refl
+agree_move (Some v) (Value (suc d)) = rw (ne_eqb (suc d) 0 (λ e. omega arith))
 
 pub agreement_ok : (n error p k : ℕ) → Instance k → (v : Option ℕ) (u : Tape) → Good n u.rest
-    → Afterwards (answer_agreement error p k (state_of v none) u) (λ o s z. Agreed n k p v u.rest o s z.rest)
+    → Afterwards (answer_agreement error p k (state_of v None) u) (λ o s z. Agreed n k p v u.rest o s z.rest)
 unfolding answer_agreement
 agreement_ok n error p k i v u g =
-    after_onward (instance_answer error p k Agreement (state_of v none) u) _ _
-    (after_map (instance_answer error p k Agreement (state_of v none) u) _ _ (instance_ok n error p k Agreement i (state_of v none) u g) (λ out t z h.
+    after_onward (instance_answer error p k Agreement (state_of v None) u) _ _
+    (after_map (instance_answer error p k Agreement (state_of v None) u) _ _ (instance_ok n error p k Agreement i (state_of v None) u g) (λ out t z h.
     rw (h.0, agree_move v out) (record { answer = option_of out; heard = h.1; state = refl; out = refl })))
 
 -- A BROADCAST OR AGREEMENT MESSAGE, with the vote 1 that it may bring: what it took for p, by the kinds asked about
 pub record Went (n p : ℕ) (v d : Option ℕ) (ws : List Rec) (o : Option ℕ) (s : ProposalState) (r : List Rec) : Type 0 where
   pub took : (ℕ → Bool) → Option ℕ
-  pub first : (is : ℕ → Bool) → NoPart is → (q : ℕ) → first_taken is q ws ≡ or_else (cond (eqb p q) (took is) none) (first_taken is q r)
+  pub first : (is : ℕ → Bool) → NoPart is → (q : ℕ) → first_taken is q ws ≡ or_else (cond (eqb p q) (took is) None) (first_taken is q r)
   pub state : s ≡ state_of (or_else v (took of_value)) (or_else d (took of_decision))
   pub out : o ≡ output_of (or_else v (took of_value)) (or_else d (took of_decision))
   pub bit : Bit (took of_decision)
@@ -109,8 +109,8 @@ pub record Went (n p : ℕ) (v d : Option ℕ) (ws : List Rec) (o : Option ℕ) 
   pub asking : (kind : ℕ) → is_part kind ≡ false → (q : ℕ) → is_asked kind q ws ≡ ((asks kind && eqb p q) || is_asked kind q r)
   pub six : asks 6 ≡ (is_there (took of_value) && not (is_there d))
   pub seven : asks 7 ≡ false
-  pub broadcast : (k : ℕ) → of_value k ≡ true → asks k ≡ true → (v ≡ none) × (d ≢ some 0)
-  pub agreement : asks 5 ≡ true → d ≡ none
+  pub broadcast : (k : ℕ) → of_value k ≡ true → asks k ≡ true → (v ≡ None) × (d ≢ Some 0)
+  pub agreement : asks 5 ≡ true → d ≡ None
   pub named : p < n
   pub good : Good n r
 
@@ -121,31 +121,31 @@ two_asked true true false t = refl
 two_asked true false false t = refl
 two_asked false y z t = refl
 
-there_zero : (d : Option ℕ) → d ≡ none → d ≢ some 0
+there_zero : (d : Option ℕ) → d ≡ None → d ≢ Some 0
 there_zero d e f = let z : ◌≡◌ {A = ℕ} 0 1 = cc in omega arith
 
-one_zero : (m : ℕ) (d : Option ℕ) → d ≡ some (suc m) → d ≢ some 0
+one_zero : (m : ℕ) (d : Option ℕ) → d ≡ Some (suc m) → d ≢ Some 0
 one_zero m d e f = let z : suc m ≡ 0 = cc in omega arith
 
-by_name : (s t : Bool) (o x : Option ℕ) → or_else (cond (s && t) o none) x ≡ or_else (cond t (cond s o none) none) x
+by_name : (s t : Bool) (o x : Option ℕ) → or_else (cond (s && t) o None) x ≡ or_else (cond t (cond s o None) None) x
 by_name true true o x = refl
 by_name true false o x = refl
 by_name false true o x = refl
 by_name false false o x = refl
 
-by_names : (s s' t : Bool) (o o' x : Option ℕ) → or_else (cond (s && t) o none) (or_else (cond (s' && t) o' none) x) ≡ or_else (cond t (or_else (cond s o none) (cond s' o' none)) none) x
+by_names : (s s' t : Bool) (o o' x : Option ℕ) → or_else (cond (s && t) o None) (or_else (cond (s' && t) o' None) x) ≡ or_else (cond t (or_else (cond s o None) (cond s' o' None)) None) x
 unfolding or_else
-by_names true s' true none o' x = by_name s' true o' x
-by_names true s' true (some y) o' x = refl
+by_names true s' true None o' x = by_name s' true o' x
+by_names true s' true (Some y) o' x = refl
 by_names false s' true o o' x = by_name s' true o' x
 by_names true s' false o o' x = by_name s' false o' x
 by_names false s' false o o' x = by_name s' false o' x
 
 -- a message of the agreement
-pub went_agreed : (n p : ℕ) (v : Option ℕ) (ws : List Rec) (o : Option ℕ) (s : ProposalState) (r : List Rec) → Agreed n 5 p v ws o s r → Went n p v none ws o s r
+pub went_agreed : (n p : ℕ) (v : Option ℕ) (ws : List Rec) (o : Option ℕ) (s : ProposalState) (r : List Rec) → Agreed n 5 p v ws o s r → Went n p v None ws o s r
 unfolding or_else is_there
 went_agreed n p v ws o s r a = record {
-  took = λ is. cond (is 5) a.answer none;
+  took = λ is. cond (is 5) a.answer None;
   first = λ is np q. a.heard.first is np q ∙ by_name (is 5) (eqb p q) a.answer (first_taken is q r);
   state = rw (or_else_none v) a.state;
   out = rw (or_else_none v) a.out;
@@ -173,10 +173,10 @@ module _ (n error p k : ℕ) (i : Broadcasts k) where
   not_agreement j e = apart of_decision k j i.decision e
 
   -- nothing came, or the value of a proposal that is accepted
-  quiet : (d o : Option ℕ) (ws r : List Rec) → d ≢ some 0 → Heard n k p ws o r → is_there o && not (is_there d) ≡ false → Went n p none d ws (output_of o d) (state_of o d) r
+  quiet : (d o : Option ℕ) (ws r : List Rec) → d ≢ Some 0 → Heard n k p ws o r → is_there o && not (is_there d) ≡ false → Went n p None d ws (output_of o d) (state_of o d) r
   unfolding or_else Bit is_there
   quiet d o ws r nz h vote = record {
-    took = λ is. cond (is k) o none;
+    took = λ is. cond (is k) o None;
     first = λ is np q. h.first is np q ∙ by_name (is k) (eqb p q) o (first_taken is q r);
     state = rw (i.value, i.decision, or_else_none d);
     out = rw (i.value, i.decision, or_else_none d);
@@ -193,11 +193,11 @@ module _ (n error p k : ℕ) (i : Broadcasts k) where
   }
 
   -- a value and its vote 1
-  voted : (x : ℕ) (ws r z : List Rec) (o : Option ℕ) (s : ProposalState) → Heard n k p ws (some x) r → Agreed n 6 p (some x) r o s z → Went n p none none ws o s z
+  voted : (x : ℕ) (ws r z : List Rec) (o : Option ℕ) (s : ProposalState) → Heard n k p ws (Some x) r → Agreed n 6 p (Some x) r o s z → Went n p None None ws o s z
   unfolding or_else is_there
   voted x ws r z o s h a = record {
-    took = λ is. or_else (cond (is k) (some x) none) (cond (is 6) a.answer none);
-    first = λ is np q. h.first is np q ∙ ap (or_else (cond (is k && eqb p q) (some x) none)) (a.heard.first is np q) ∙ by_names (is k) (is 6) (eqb p q) (some x) a.answer (first_taken is q z);
+    took = λ is. or_else (cond (is k) (Some x) None) (cond (is 6) a.answer None);
+    first = λ is np q. h.first is np q ∙ ap (or_else (cond (is k && eqb p q) (Some x) None)) (a.heard.first is np q) ∙ by_names (is k) (is 6) (eqb p q) (Some x) a.answer (first_taken is q z);
     state = rw (i.value, i.decision) a.state;
     out = rw (i.value, i.decision) a.out;
     bit = rw i.decision (a.heard.bit (omega arith));
@@ -207,35 +207,35 @@ module _ (n error p k : ℕ) (i : Broadcasts k) where
         h.asking kind np q ∙ ap (λ x. (eqb k kind && eqb p q) || x) (a.heard.asking kind np q) ∙ two_asked (eqb k kind) (eqb 6 kind) (eqb p q) (is_asked kind q z);
     six = rw (not_agreement 6 refl, i.value);
     seven = rw (not_agreement 7 refl);
-    broadcast = λ j e f. (refl, there_zero none refl);
+    broadcast = λ j e f. (refl, there_zero None refl);
     agreement = λ e. refl;
     named = h.named;
     good = a.heard.good;
   }
 
-  ongoing_ok : (out : Output) (ws : List Rec) (z : Tape) → Heard n k p ws (option_of out) z.rest → Afterwards (after_value error p Ongoing out z) (λ o s y. Went n p none none ws o s y.rest)
+  ongoing_ok : (out : Output) (ws : List Rec) (z : Tape) → Heard n k p ws (option_of out) z.rest → Afterwards (after_value error p Ongoing out z) (λ o s y. Went n p None None ws o s y.rest)
   unfolding after_value after_broadcast vote_true asks_agreement option_of is_there
-  ongoing_ok Missing ws z h = quiet none none ws z.rest (there_zero none refl) h refl
+  ongoing_ok Missing ws z h = quiet None None ws z.rest (there_zero None refl) h refl
   ongoing_ok (Value x) ws z h =
-      after_map (answer_agreement error p 6 (HasValue x) z) _ _ (agreement_ok n error p 6 kind6 (some x) z h.good) (λ o s y a. voted x ws z.rest y.rest o s h a)
+      after_map (answer_agreement error p 6 (HasValue x) z) _ _ (agreement_ok n error p 6 kind6 (Some x) z h.good) (λ o s y a. voted x ws z.rest y.rest o s h a)
 
-  accepted_ok : (d : ℕ) (out : Output) (ws : List Rec) (z : Tape) → Heard n k p ws (option_of out) z.rest → Afterwards (after_value error p Accepted out z) (λ o s y. Went n p none (some (suc d)) ws o s y.rest)
+  accepted_ok : (d : ℕ) (out : Output) (ws : List Rec) (z : Tape) → Heard n k p ws (option_of out) z.rest → Afterwards (after_value error p Accepted out z) (λ o s y. Went n p None (Some (suc d)) ws o s y.rest)
   unfolding after_value after_broadcast vote_true asks_agreement option_of is_there
-  accepted_ok d Missing ws z h = quiet (some (suc d)) none ws z.rest (one_zero d (some (suc d)) refl) h refl
-  accepted_ok d (Value y) ws z h = quiet (some (suc d)) (some y) ws z.rest (one_zero d (some (suc d)) refl) h refl
+  accepted_ok d Missing ws z h = quiet (Some (suc d)) None ws z.rest (one_zero d (Some (suc d)) refl) h refl
+  accepted_ok d (Value y) ws z h = quiet (Some (suc d)) (Some y) ws z.rest (one_zero d (Some (suc d)) refl) h refl
 
   pub broadcast_ok : (v d : Option ℕ) → asks_broadcast (state_of v d) ≡ true → (u : Tape) → Good n u.rest
       → Afterwards (answer_broadcast error p k (state_of v d) u) (λ o s z. Went n p v d u.rest o s z.rest)
   unfolding answer_broadcast asks_broadcast
-  broadcast_ok none none e u g =
+  broadcast_ok None None e u g =
       after_onward (instance_answer error p k Broadcast Ongoing u) _ _
       (after_map (instance_answer error p k Broadcast Ongoing u) _ _ (instance_ok n error p k Broadcast i.kind Ongoing u g) (λ out t z h.
       rw h.0 (ongoing_ok out u.rest z h.1)))
-  broadcast_ok (some v) none e u g = absurd (false≢true e)
-  broadcast_ok none (some zero) e u g = absurd (false≢true e)
-  broadcast_ok (some v) (some zero) e u g = absurd (false≢true e)
-  broadcast_ok none (some (suc d)) e u g =
+  broadcast_ok (Some v) None e u g = absurd (false≢true e)
+  broadcast_ok None (Some zero) e u g = absurd (false≢true e)
+  broadcast_ok (Some v) (Some zero) e u g = absurd (false≢true e)
+  broadcast_ok None (Some (suc d)) e u g =
       after_onward (instance_answer error p k Broadcast Accepted u) _ _
       (after_map (instance_answer error p k Broadcast Accepted u) _ _ (instance_ok n error p k Broadcast i.kind Accepted u g) (λ out t z h.
       rw h.0 (accepted_ok d out u.rest z h.1)))
-  broadcast_ok (some v) (some (suc d)) e u g = absurd (false≢true e)
+  broadcast_ok (Some v) (Some (suc d)) e u g = absurd (false≢true e)

@@ -2,7 +2,7 @@
 use Prim.Native.Nat.{ℕ, ◌+◌}
 use mathlib.Core.Path.{◌≡◌, refl}
 use mathlib.Core.Bool.{true}
-use mathlib.Core.Option.{Option, none}
+use Rattle.std.specs.Prelude.{Option, None}
 use native.Mathlib.Omega.{arith}
 use lib.Dec.{eqb}
 use Rattle.steps.specs.declared.reader.Content.{Content}
@@ -29,10 +29,10 @@ module _ (T : Terms) (P : Logic T ProposalState) where
     pub agreed : (s : ProposalState) (out : Output) → P.Step (given out) s (after_agreement s out).value (after_agreement s out).state
     pub came : (s : ProposalState) (out : Output) → P.Step (given out) s (after_broadcast s out).value (after_broadcast s out).state
     -- where the agreement is still asked no contribution is handed up
-    pub voted : (s : ProposalState) (out : Output) → P.Step (given out) s none (after_broadcast s out).state
+    pub voted : (s : ProposalState) (out : Output) → P.Step (given out) s None (after_broadcast s out).state
 
   module _ (R : Moves) (error proposer : ℕ) (number : T.Number error) where
-    answer_keeps : (kind : ℕ) (content : Content) → T.Kind kind → (n : ℕ) (s : ProposalState) (t : Tape) → P.Good _ outcome (hand none n) s t (instance_answer error proposer kind content s t)
+    answer_keeps : (kind : ℕ) (content : Content) → T.Kind kind → (n : ℕ) (s : ProposalState) (t : Tape) → P.Good _ outcome (hand None n) s t (instance_answer error proposer kind content s t)
     unfolding instance_answer
     answer_keeps kind content e n s t =
         hear P n kind proposer e (λ a b q.
@@ -42,7 +42,7 @@ module _ (T : Terms) (P : Logic T ProposalState) where
         → P.Good _ contribution (outcome out) s q (moved_to (record { state = u; value = o }) q)
     moved_keeps out s o u q e = move P e (tell P refl (omega arith))
 
-    pub agreement_keeps : (kind : ℕ) → T.Kind kind → (n : ℕ) (s : ProposalState) (t : Tape) → P.Good _ contribution (hand none n) s t (answer_agreement error proposer kind s t)
+    pub agreement_keeps : (kind : ℕ) → T.Kind kind → (n : ℕ) (s : ProposalState) (t : Tape) → P.Good _ contribution (hand None n) s t (answer_agreement error proposer kind s t)
     unfolding answer_agreement
     agreement_keeps kind e n s t = next P (answer_keeps kind _ e n s t) (λ out s q. moved_keeps out s _ _ q (R.agreed s out))
 
@@ -54,6 +54,6 @@ module _ (T : Terms) (P : Logic T ProposalState) where
         (λ _. move P (R.voted s (Value v)) (agreement_keeps 6 (R.reads 6 refl) 0 _ t))
         (λ _. moved_keeps (Value v) s _ _ t (R.came s (Value v)))
 
-    pub broadcast_keeps : (kind : ℕ) → T.Kind kind → (n : ℕ) (s : ProposalState) (t : Tape) → P.Good _ contribution (hand none n) s t (answer_broadcast error proposer kind s t)
+    pub broadcast_keeps : (kind : ℕ) → T.Kind kind → (n : ℕ) (s : ProposalState) (t : Tape) → P.Good _ contribution (hand None n) s t (answer_broadcast error proposer kind s t)
     unfolding answer_broadcast
     broadcast_keeps kind e n s t = next P (answer_keeps kind _ e n s t) (λ out s q. value_keeps s out q)

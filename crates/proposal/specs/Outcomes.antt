@@ -1,6 +1,6 @@
 -- What each enum and struct of a proposal stands for, and what its functions leave.
 use Rattle.std.specs.Prelude.{ℕ, List}
-use Rattle.std.proofs.Math.Option.{Option, none, some}
+use Rattle.std.specs.Prelude.{Option, None, Some}
 use Rattle.steps.specs.Answers.{Tape}
 use Rattle.steps.specs.declared.step.Step.{Step}
 use Rattle.steps.specs.declared.reader.Output.{Output}
@@ -26,8 +26,8 @@ left_told s r p w = record { state = s; verdict = told_verdict r.outcome; tape =
 
 -- no output, or the value that is output
 abbrev pub verdict : Outcome → Verdict (Option ℕ)
-verdict Nothing = going none
-verdict (Value v) = going (some v)
+verdict Nothing = going None
+verdict (Value v) = going (Some v)
 verdict Refused = refused
 verdict (Failed n) = failed n
 
@@ -39,8 +39,8 @@ abbrev pub transition : ProposalState → Outcome → Step → Transition
 transition s o step = record { state = s; outcome = o; step = step }
 
 abbrev pub outcome_of : Option ℕ → Outcome
-outcome_of none = Nothing
-outcome_of (some v) = Value v
+outcome_of None = Nothing
+outcome_of (Some v) = Value v
 
 abbrev pub transition_of : Moved → Step → Transition
 transition_of m step = transition m.state (outcome_of m.value) step

@@ -1,6 +1,6 @@
 -- A proposal, after proposal_state.rs. `error` is the number that the caller gives a failure, 22 or 23.
 use Rattle.std.specs.Prelude.{ℕ, Bool, true, false, cond, eqb}
-use Rattle.std.proofs.Math.Option.{Option, none, some}
+use Rattle.std.specs.Prelude.{Option, None, Some}
 use Rattle.steps.specs.declared.reader.Content.{Content}
 use Rattle.steps.specs.declared.reader.Content.TheVariants.{Broadcast, Agreement}
 use Rattle.steps.specs.declared.reader.Output.{Output}
@@ -43,21 +43,21 @@ moved s v = record { state = s; value = v }
 
 -- the answer of the agreement instance, already read: "A proposal goes Ongoing, then HasValue or Accepted, then Complete"
 unfoldable pub after_agreement : ProposalState → Output → Moved
-after_agreement Ongoing Missing = moved Ongoing none
-after_agreement Ongoing (Value d) = cond (eqb d 0) (moved (Complete false) none) (moved Accepted none)
-after_agreement (HasValue v) Missing = moved (HasValue v) none
-after_agreement (HasValue v) (Value d) = cond (eqb d 0) (moved (Complete false) none) (moved (Complete true) (some v))
-after_agreement Accepted out = moved Accepted none
-after_agreement (Complete b) out = moved (Complete b) none
+after_agreement Ongoing Missing = moved Ongoing None
+after_agreement Ongoing (Value d) = cond (eqb d 0) (moved (Complete false) None) (moved Accepted None)
+after_agreement (HasValue v) Missing = moved (HasValue v) None
+after_agreement (HasValue v) (Value d) = cond (eqb d 0) (moved (Complete false) None) (moved (Complete true) (Some v))
+after_agreement Accepted out = moved Accepted None
+after_agreement (Complete b) out = moved (Complete b) None
 
 -- the answer of the broadcast instance, already read
 unfoldable pub after_broadcast : ProposalState → Output → Moved
-after_broadcast Ongoing Missing = moved Ongoing none
-after_broadcast Ongoing (Value v) = moved (HasValue v) none
-after_broadcast Accepted Missing = moved Accepted none
-after_broadcast Accepted (Value v) = moved (Complete true) (some v)
-after_broadcast (HasValue v) out = moved (HasValue v) none
-after_broadcast (Complete b) out = moved (Complete b) none
+after_broadcast Ongoing Missing = moved Ongoing None
+after_broadcast Ongoing (Value v) = moved (HasValue v) None
+after_broadcast Accepted Missing = moved Accepted None
+after_broadcast Accepted (Value v) = moved (Complete true) (Some v)
+after_broadcast (HasValue v) out = moved (HasValue v) None
+after_broadcast (Complete b) out = moved (Complete b) None
 
 -- "No outside call is made in HasValue for broadcast, in Accepted for agreement, in Complete at all."
 unfoldable pub asks_agreement : ProposalState → Bool
@@ -102,7 +102,7 @@ module _ (error p : ℕ) where
 
   -- `handle_agreement` and `handle_broadcast`, which leave any other proposal as it is
   unfoldable pub handle_agreement : ℕ → ProposalState → Tape → Run ProposalState (Option ℕ)
-  handle_agreement kind s tape = cond (asks_agreement s) (answer_agreement kind s tape) (moved_to (moved s none) tape)
+  handle_agreement kind s tape = cond (asks_agreement s) (answer_agreement kind s tape) (moved_to (moved s None) tape)
 
   unfoldable pub handle_broadcast : ℕ → ProposalState → Tape → Run ProposalState (Option ℕ)
-  handle_broadcast kind s tape = cond (asks_broadcast s) (answer_broadcast kind s tape) (moved_to (moved s none) tape)
+  handle_broadcast kind s tape = cond (asks_broadcast s) (answer_broadcast kind s tape) (moved_to (moved s None) tape)

@@ -4,7 +4,7 @@ use mathlib.Core.Path.{◌≡◌, refl}
 use mathlib.Core.Logic.{◌⊎◌, inl, inr}
 use mathlib.Core.List.{List, [], ◌∷◌}
 use mathlib.Core.Bool.{Bool, true, false, cond, ◌&&◌, false≢true}
-use mathlib.Core.Option.{Option, none}
+use Rattle.std.specs.Prelude.{Option, None}
 use native.Mathlib.Omega.{arith}
 use lib.ListN.{length, get_or, length-append}
 use lib.Dec.{eqb, ltb}
@@ -12,8 +12,6 @@ use borrow.Author.Tests.{leb-true, ltb-true, ltb-false}
 use Rattle.steps.specs.declared.reader.Content.{Content}
 use Rattle.steps.specs.declared.reader.Answer.{Answer}
 use Rattle.steps.specs.declared.reader.Answer.TheVariants.{Got, Refused}
-use Rattle.steps.specs.declared.reader.Output.{Output}
-use Rattle.steps.specs.declared.reader.Output.TheVariants.{Missing}
 use Rattle.steps.specs.Table.{shape_ok, table_ok}
 use Rattle.steps.specs.Answers.{Rec, Tape, tape, link, rec_at, on_record, walk, chain, tape_of, Asked, asked, ask_for, ask, ask_about}
 use Rattle.steps.specs.Steps.{Entry, message, fault}
@@ -40,16 +38,16 @@ for_fewer : (want : Rec → Bool) (p : Tape) → Fewer p (ask_for want p p.rest)
 unfolding ask_for
 for_fewer want p = go p.rest refl
   where
-    none : Fewer p (asked Refused p)
-    none = record { got = λ a b e. let z : ◌≡◌ {A = ℕ} 0 1 = cc in absurd (omega arith); left = omega arith }
+    None : Fewer p (asked Refused p)
+    None = record { got = λ a b e. let z : ◌≡◌ {A = ℕ} 0 1 = cc in absurd (omega arith); left = omega arith }
 
     go : (l : List Rec) → p.rest ≡ l → Fewer p (ask_for want p l)
-    go [] e = none
+    go [] e = None
     go (r ∷ rs) e = by (want r)
       where
         by : (x : Bool) → Fewer p (cond x (asked (Got r.a r.b) (tape r.next rs)) (asked Refused p))
         by true = record { got = λ a b _. rw e (omega arith); left = rw e (omega arith) }
-        by false = none
+        by false = None
 
 -- AS A LOGIC OF RUNS, in which a value leaves some of the entries to what comes after it
 unfoldable pub left : {A : Type 0} → (A → Hand) → Verdict A → ℕ
@@ -63,7 +61,7 @@ pub record Spends {S A : Type 0} (f : A → Hand) (h : Hand) (p : Tape) (r : Run
 pub spends_bounded : {S A : Type 0} (f : A → Hand) (h : Hand) (p : Tape) (r : Run S A) → Spends f h p r → Bounded h.entries p r
 spends_bounded f h p r b = record { short = omega (arith, b.spent) }
 
-pub bounded_spends : {S A : Type 0} (more : ℕ) (p : Tape) (r : Run S A) → Bounded more p r → Spends nothing (hand none more) p r
+pub bounded_spends : {S A : Type 0} (more : ℕ) (p : Tape) (r : Run S A) → Bounded more p r → Spends nothing (hand None more) p r
 unfolding left
 bounded_spends {A = A} more p r b = record { spent = go r.verdict }
   where
@@ -127,7 +125,7 @@ part_one content proposer kind a b = go (eqb kind 16) (eqb kind 17)
     go false false = omega arith
 
 module _ (content : Content) (proposer : ℕ) where
-  parts_few : (o : Output) (i : ℕ) (l : List Rec) → length (parts_from content proposer o i l).log + length (parts_from content proposer o i l).tape.rest ≤ length l
+  parts_few : (o : (Option ℕ)) (i : ℕ) (l : List Rec) → length (parts_from content proposer o i l).log + length (parts_from content proposer o i l).tape.rest ≤ length l
   unfolding parts_from
   parts_few o i [] = omega arith
   parts_few o i (r ∷ rs) = go (is_part r.kind) refl (parts_few (last_output o r.kind r.b) r.next rs)
@@ -142,16 +140,16 @@ module _ (content : Content) (proposer : ℕ) where
           (omega (arith, length-append (part_entries content proposer r.kind r.a r.b) later.log, part_one content proposer r.kind r.a r.b))
       go false e h = rw (parts_off content proposer o i r rs e) (omega arith)
 
-  pub spends_parts : {S : Type 0} (n : ℕ) (s : S) (p : Tape) → Spends (λ o. hand (given o) 0) (hand none n) p (read_parts content proposer s p)
+  pub spends_parts : {S : Type 0} (n : ℕ) (s : S) (p : Tape) → Spends (λ o. hand (given o) 0) (hand None n) p (read_parts content proposer s p)
   unfolding left
-  spends_parts n s p = record { spent = omega (arith, parts_few Missing p.place p.rest) }
+  spends_parts n s p = record { spent = omega (arith, parts_few None p.place p.rest) }
 
-pub spends_spares : {S A : Type 0} (n c all : ℕ) (p : Tape) (r : Run S A) → c + n ≤ all → Spends nothing (hand none n) p r → Spends (λ a. hand none c) (hand none all) p r
+pub spends_spares : {S A : Type 0} (n c all : ℕ) (p : Tape) (r : Run S A) → c + n ≤ all → Spends nothing (hand None n) p r → Spends (λ a. hand None c) (hand None all) p r
 unfolding left
 spends_spares {A = A} n c all p r e g = record { spent = go r.verdict g.spent }
   where
     go : (v : Verdict A) → length r.log + length r.tape.rest + left nothing v ≤ length p.rest + n
-        → length r.log + length r.tape.rest + left {A = A} (λ a. hand none c) v ≤ length p.rest + all
+        → length r.log + length r.tape.rest + left {A = A} (λ a. hand None c) v ≤ length p.rest + all
     go (going a) l = omega arith
     go refused l = omega arith
     go (failed m) l = omega arith
@@ -166,7 +164,7 @@ counting S = record {
   writes = λ A f x n e s p r w g. spends_one f x n e p r g;
   asks = λ A f x n kind s p k e g. spends_ask f x x n kind s p k (λ a b q. g a b q tt);
   asks_about = λ A f x n kind who s p k e g. spends_about f x n kind who s p k g;
-  asks_text = λ A f n s p k e g. spends_ask f none none n 12 s p k (λ a b q. record { spent = (g a b q tt).spent });
+  asks_text = λ A f n s p k e g. spends_ask f None None n 12 s p k (λ a b q. record { spent = (g a b q tt).spent });
   parts = λ content proposer n s p e. spends_parts content proposer n s p;
   spares = λ A n left all s p r e g. spends_spares n left all p r e g;
   goes_on = λ A B f g h s p r k b m. spends_onward f g h p r k b m;
@@ -201,7 +199,7 @@ table_short n t e =
     by_test (shape_ok t) _ _ e
     (λ s _. by_test (ltb (length t) 4) _ _ s (λ _ s. absurd (false≢true s)) (λ l s.
     let few : length t ≤ 4096 = leb-true _ _ (and-true _ _ (and-true _ _ (and-true _ _ (and-true _ _ s).0).0).0).0 in
-    let some : 4 ≤ length t = ltb-false _ _ l in
+    let Some : 4 ≤ length t = ltb-false _ _ l in
     omega (arith, walk_short (length t) t (get_or t 0 0) 0 (first (get_or t 0 0)) (omega arith))))
     (λ _ s. absurd (false≢true s))
   where

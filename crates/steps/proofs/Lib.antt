@@ -5,6 +5,7 @@ pub mod RunLaws
 pub mod RunsInParts
 pub mod AfterRun
 pub mod Parts
+pub mod ReaderCode
 pub mod TableCheck
 pub mod TakenFromChain
 pub mod ReadByKinds

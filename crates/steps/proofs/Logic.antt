@@ -4,12 +4,10 @@ use Prim.Native.Nat.{ℕ, ◌+◌, ◌-◌, ◌≤◌}
 use mathlib.Core.Path.{◌≡◌, refl}
 use mathlib.Core.List.{List, [], ◌∷◌, ◌++◌}
 use mathlib.Core.Bool.{Bool, true, false, cond}
-use mathlib.Core.Option.{Option, none, some}
+use Rattle.std.specs.Prelude.{Option, None, Some}
 use native.Mathlib.Omega.{arith}
 use lib.Dec.{eqb}
 use Rattle.steps.specs.declared.reader.Content.{Content}
-use Rattle.steps.specs.declared.reader.Output.{Output}
-use Rattle.steps.specs.declared.reader.Output.TheVariants.{Missing, Value}
 use Rattle.steps.specs.Answers.{Tape, ask, ask_about}
 use Rattle.steps.specs.Steps.{Entry, message, fault}
 use Rattle.steps.specs.Runs.{going, failed, Run, ends, before, onward, heard, inside}
@@ -25,12 +23,12 @@ hand x n = record { handle = x; entries = n }
 
 -- a value that hands up nothing
 abbrev pub nothing : {A : Type 0} → A → Hand
-nothing a = hand none 0
+nothing a = hand None 0
 
 -- the output of an instance
-abbrev pub given : Output → Option ℕ
-given Missing = none
-given (Value v) = some v
+abbrev pub given : (Option ℕ) → Option ℕ
+given None = None
+given (Some v) = Some v
 
 -- WHAT MAY BE READ (answers by their kinds, a 12 whose handle is handed up, parts), written and failed with, and what is known of a handle that
 -- was read and of the index of a node
@@ -80,10 +78,10 @@ pub record Logic (T : Terms) (S : Type 0) : Type 1 where
   pub asks_about : (A : Type 0) (f : A → Hand) (x : Option ℕ) (n kind who : ℕ) (s : S) (p : Tape) (k : ℕ → ℕ → Tape → Run S A) → T.Kind kind
       → ((a b : ℕ) (q : Tape) → Good A f (hand x (n + 1)) s q (k a b q)) → Good A f (hand x n) s p (heard (ask_about p kind who) s k)
   pub asks_text : (A : Type 0) (f : A → Hand) (n : ℕ) (s : S) (p : Tape) (k : ℕ → ℕ → Tape → Run S A) → T.Text
-      → ((a b : ℕ) (q : Tape) → T.Handle b → Good A f (hand (some b) (n + 1)) s q (k a b q)) → Good A f (hand none n) s p (heard (ask p 12) s k)
-  pub parts : (content : Content) (proposer n : ℕ) (s : S) (p : Tape) → T.Parts → Good Output (λ o. hand (given o) 0) (hand none n) s p (read_parts content proposer s p)
+      → ((a b : ℕ) (q : Tape) → T.Handle b → Good A f (hand (Some b) (n + 1)) s q (k a b q)) → Good A f (hand None n) s p (heard (ask p 12) s k)
+  pub parts : (content : Content) (proposer n : ℕ) (s : S) (p : Tape) → T.Parts → Good (Option ℕ) (λ o. hand (given o) 0) (hand None n) s p (read_parts content proposer s p)
   -- entries that are allowed besides are left over, or not used
-  pub spares : (A : Type 0) (n left all : ℕ) (s : S) (p : Tape) (r : Run S A) → left + n ≤ all → Good A nothing (hand none n) s p r → Good A (λ a. hand none left) (hand none all) s p r
+  pub spares : (A : Type 0) (n left all : ℕ) (s : S) (p : Tape) (r : Run S A) → left + n ≤ all → Good A nothing (hand None n) s p r → Good A (λ a. hand None left) (hand None all) s p r
   -- Rust's `?`
   pub goes_on : (A B : Type 0) (f : A → Hand) (g : B → Hand) (h : Hand) (s : S) (p : Tape) (r : Run S A) (k : A → S → Tape → Run S B)
       → Good A f h s p r → ((a : A) (t : S) (q : Tape) → Good B g (f a) t q (k a t q)) → Good B g h s p (onward r k)
@@ -95,11 +93,11 @@ either G false r s f g = g refl
 
 module _ {T : Terms} {S : Type 0} (L : Logic T S) where
   -- a run that goes on and hands up nothing, from the state where it is or from one that may be left for it
-  pub here : {A : Type 0} {n : ℕ} (a : A) (s : S) (p : Tape) → L.Good A nothing (hand none n) s p (ends (going a) s p)
+  pub here : {A : Type 0} {n : ℕ} (a : A) (s : S) (p : Tape) → L.Good A nothing (hand None n) s p (ends (going a) s p)
   here a s p = L.goes _ nothing _ a s p refl (omega arith)
 
-  pub there : {A : Type 0} {n : ℕ} (a : A) (s t : S) (p : Tape) → L.Step none s none t → L.Good A nothing (hand none n) s p (ends (going a) t p)
-  there a s t p e = L.steps _ nothing none none _ s t p _ e (here a t p)
+  pub there : {A : Type 0} {n : ℕ} (a : A) (s t : S) (p : Tape) → L.Step None s None t → L.Good A nothing (hand None n) s p (ends (going a) t p)
+  there a s t p e = L.steps _ nothing None None _ s t p _ e (here a t p)
 
   -- the rules with what a goal tells left out
   pub tell : {A : Type 0} {f : A → Hand} {h : Hand} {a : A} {s : S} {p : Tape} → (f a).handle ≡ h.handle → (f a).entries ≤ h.entries → L.Good A f h s p (ends (going a) s p)

@@ -6,7 +6,7 @@ use mathlib.Core.Bool.{true, false}
 use borrow.Author.Tests.{eq-eqb, ne_eqb}
 use Rattle.steps.specs.declared.reader.Found.TheVariants.{Record, End}
 use Rattle.steps.specs.declared.reader.Content.{Content}
-use Rattle.steps.specs.declared.reader.Output.{Output}
+use Rattle.std.specs.Prelude.{Option}
 use Rattle.steps.specs.declared.step.Step.{Step}
 use Rattle.steps.specs.Answers.{Rec, tape, chain, tape_at, head_of}
 use Rattle.steps.specs.Steps.{Entry, message, fault, Out, out, put_entry, put_all}
@@ -19,7 +19,7 @@ use Rattle.steps.proofs.RunLaws.{leaves_before}
 abbrev pub after_entries : List Entry → PartsTold → PartsTold
 after_entries l told = record { output = told.output; tape = told.tape; log = l ++ told.log }
 
-module _ (content : Content) (proposer : ℕ) (output : Output) (i : ℕ) (r : Rec) (rs : List Rec) where
+module _ (content : Content) (proposer : ℕ) (output : (Option ℕ)) (i : ℕ) (r : Rec) (rs : List Rec) where
   pub parts_on : is_part r.kind ≡ true
       → parts_from content proposer output i (r ∷ rs) ≡ after_entries (part_entries content proposer r.kind r.a r.b) (parts_from content proposer (last_output output r.kind r.b) r.next rs)
   unfolding parts_from
@@ -44,10 +44,10 @@ module _ (o : Out) (content : Content) (proposer kind a b : ℕ) where
   other_part n m = rw (ne_eqb kind 16 n, ne_eqb kind 17 m, part_entries)
 
 -- the parts that a table has from a place on
-abbrev pub parts_at : Content → ℕ → Output → List ℕ → ℕ → Run (Unit {0}) Output
+abbrev pub parts_at : Content → ℕ → (Option ℕ) → List ℕ → ℕ → Run (Unit {0}) (Option ℕ)
 parts_at content proposer output t i = told_by tt (parts_from content proposer output i (chain t i))
 
-module _ (content : Content) (proposer : ℕ) (output : Output) (t : List ℕ) (i : ℕ) where
+module _ (content : Content) (proposer : ℕ) (output : (Option ℕ)) (t : List ℕ) (i : ℕ) where
   pub parts_end : head_of (chain t i) ≡ End → (s : Step) (w : List ℕ) → left (record { output = output; step = s }) (tape_at t i) w ≡ leaves (out s w) (parts_at content proposer output t i)
   unfolding parts_from put_all
   parts_end e s w = rw (chain_ended (chain t i) e)
@@ -57,7 +57,7 @@ module _ (content : Content) (proposer : ℕ) (output : Output) (t : List ℕ) (
     unfolding put_all
     parts_stop h s w = rw (chain_found t i n k a b e, parts_off content proposer output i (record { next = n; kind = k; a = a; b = b }) (chain t n) h)
 
-    pub parts_turn : is_part k ≡ true → (s s' : Step) (w w' : List ℕ) (output' : Output) → out s' w' ≡ put_all (out s w) (part_entries content proposer k a b) → output' ≡ last_output output k b
+    pub parts_turn : is_part k ≡ true → (s s' : Step) (w w' : List ℕ) (output' : (Option ℕ)) → out s' w' ≡ put_all (out s w) (part_entries content proposer k a b) → output' ≡ last_output output k b
         → leaves (out s' w') (parts_at content proposer output' t n) ≡ leaves (out s w) (parts_at content proposer output t i)
     parts_turn h s s' w w' output' p q =
         let on : parts_from content proposer output i (chain t i) ≡ after_entries (part_entries content proposer k a b) (parts_from content proposer (last_output output k b) n (chain t n)) =

@@ -3,7 +3,7 @@ use Prim.Native.Nat.{ℕ, zero, suc, ◌*◌, ◌≤◌, ◌<◌}
 use mathlib.Core.Path.{◌≡◌, refl, sym, ◌∙◌}
 use mathlib.Core.List.{List, [], ◌∷◌}
 use mathlib.Core.Bool.{Bool, true, false, cond, ◌&&◌, ◌||◌, false≢true}
-use mathlib.Core.Option.{Option, none, some}
+use Rattle.std.specs.Prelude.{Option, None, Some}
 use native.Mathlib.Omega.{arith}
 use lib.ListN.{length, get_or, set, replicate, length-set, length-replicate}
 use lib.Seq.{get_or-set_same, get_or-set_other, set_out}
@@ -12,8 +12,6 @@ use borrow.Author.Tests.{eqb-true, eqb-false, ne_eqb, leb-true, ltb-true, ltb-fa
 use Rattle.steps.specs.declared.reader.Answer.{Answer}
 use Rattle.steps.specs.declared.reader.Answer.TheVariants.{Got, Refused}
 use Rattle.steps.specs.declared.reader.Content.{Content}
-use Rattle.steps.specs.declared.reader.Output.{Output}
-use Rattle.steps.specs.declared.reader.Output.TheVariants.{Missing, Value}
 use Rattle.steps.specs.Table.{within, handle, record_ok, word, may_follow, chain_ok, shape_ok, table_ok}
 use Rattle.steps.specs.Answers.{Rec, Tape, tape, link, rec_at, chain, tape_of, Asked, asked, ask_for, ask, ask_about}
 use Rattle.steps.specs.Steps.{Entry}
@@ -185,8 +183,8 @@ kept_inside put r f k = record { state = f _ k.state; tape = k.tape; value = k.v
 
 -- a value that is handed up, if there is one, is below 2^32
 unfoldable pub SmallOption : Option ℕ → Type 0
-SmallOption none = Unit {0}
-SmallOption (some x) = x < 0x1_0000_0000
+SmallOption None = Unit {0}
+SmallOption (Some x) = x < 0x1_0000_0000
 
 pub kept_any : {S A : Type 0} {P : S → Type 0} {Q : A → Type 0} {r : Run S A} → Kept P Q r → Kept P Any r
 kept_any {r = r} k = record { state = k.state; tape = k.tape; value = says_any r.verdict }
@@ -196,19 +194,19 @@ pub within_below : (lo hi m k : ℕ) → hi < m → within lo hi k ≡ true → 
 within_below lo hi m k l e = ne_eqb k m (λ z. omega (arith, leb-true k hi (and-true (leb lo k) (leb k hi) e).1))
 
 -- THE PARTS of an answer: an output is below 2^32
-abbrev pub SmallOutput : Output → Type 0
+abbrev pub SmallOutput : (Option ℕ) → Type 0
 SmallOutput o = SmallOption (given o)
 
-last_small : (o : Output) (r : Rec) → Small r → SmallOutput o → SmallOutput (last_output o r.kind r.b)
+last_small : (o : (Option ℕ)) (r : Rec) → Small r → SmallOutput o → SmallOutput (last_output o r.kind r.b)
 unfolding last_output output_of last_of SmallOption
 last_small o r h l = go (eqb r.kind 18) refl
   where
-    go : (x : Bool) → eqb r.kind 18 ≡ x → SmallOutput (last_of o (cond x (Value r.b) Missing))
+    go : (x : Bool) → eqb r.kind 18 ≡ x → SmallOutput (last_of o (cond x (Some r.b) None))
     go true e = h (λ z. omega (arith, eqb-true r.kind 18 e))
     go false e = l
 
 module _ (content : Content) (proposer : ℕ) where
-  parts_small : (o : Output) (i : ℕ) (l : List Rec) → AllSmall l → SmallOutput o
+  parts_small : (o : (Option ℕ)) (i : ℕ) (l : List Rec) → AllSmall l → SmallOutput o
       → AllSmall (parts_from content proposer o i l).tape.rest × SmallOutput (parts_from content proposer o i l).output
   unfolding parts_from AllSmall
   parts_small o i [] h u = (tt, u)
@@ -222,7 +220,7 @@ module _ (content : Content) (proposer : ℕ) where
 
   pub kept_parts : {S : Type 0} {P : S → Type 0} (s : S) (p : Tape) → P s → AllSmall p.rest → Kept P SmallOutput (read_parts content proposer s p)
   unfolding Says SmallOption
-  kept_parts s p h o = let k = parts_small Missing p.place p.rest o tt in record { state = h; tape = k.0; value = k.1 }
+  kept_parts s p h o = let k = parts_small None p.place p.rest o tt in record { state = h; tape = k.0; value = k.1 }
 
 -- AS A LOGIC OF RUNS among n nodes: whatever is asked for but messages
 abbrev pub small : ℕ → Terms

@@ -3,11 +3,10 @@ use Prim.Native.Nat.{ℕ}
 use mathlib.Core.Path.{◌≡◌, refl, ap, ◌∙◌}
 use mathlib.Core.List.{List, [], ◌∷◌, ◌++◌, append_assoc}
 use mathlib.Core.Bool.{Bool, true, false, cond, ◌&&◌}
-use mathlib.Core.Option.{Option}
+use Rattle.std.specs.Prelude.{Option}
 use lib.Dec.{eqb}
 use borrow.Author.Tests.{eqb-true}
 use Rattle.steps.specs.declared.reader.Content.{Content}
-use Rattle.steps.specs.declared.reader.Output.{Output}
 use Rattle.steps.specs.declared.reader.Answer.TheVariants.{Got, Refused}
 use Rattle.steps.specs.Answers.{Rec, Tape, tape, Asked, asked as answered, ask_for, ask, ask_about}
 use Rattle.steps.specs.Table.{context_after}
@@ -71,7 +70,7 @@ module _ (is : ℕ → Bool) where
       past_for (λ r. eqb r.kind k && eqb r.b who) (λ r t. ap is (eqb-true r.kind k (and-true (eqb r.kind k) _ t).0) ∙ e) p
 
   -- the parts of an answer
-  pub past_parts_lem : ((k : ℕ) → is_part k ≡ true → is k ≡ true) → (content : Content) (proposer : ℕ) (output : Output) (i : ℕ) (l : List Rec)
+  pub past_parts_lem : ((k : ℕ) → is_part k ≡ true → is k ≡ true) → (content : Content) (proposer : ℕ) (output : (Option ℕ)) (i : ℕ) (l : List Rec)
       → Past is l (parts_from content proposer output i l).tape.rest
   unfolding parts_from
   past_parts_lem f content proposer output i [] = past_same []

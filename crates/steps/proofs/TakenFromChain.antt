@@ -3,14 +3,12 @@ use Prim.Native.Nat.{ℕ, zero, suc, ◌*◌, ◌≤◌, ◌<◌}
 use mathlib.Core.Path.{◌≡◌, refl, sym, ap, ◌∙◌}
 use mathlib.Core.List.{List, [], ◌∷◌}
 use mathlib.Core.Bool.{Bool, true, false, cond, ◌&&◌, ◌||◌, false≢true}
-use mathlib.Core.Option.{Option, none, some}
+use Rattle.std.specs.Prelude.{Option, None, Some}
 use native.Mathlib.Omega.{arith}
 use lib.ListN.{length, get_or}
 use lib.Dec.{eqb, leb, ltb}
 use borrow.Author.Tests.{eqb-true, eqb-false, ne_eqb, leb-true, ltb-true, lt-leb}
 use Rattle.steps.specs.declared.reader.Content.{Content}
-use Rattle.steps.specs.declared.reader.Output.{Output}
-use Rattle.steps.specs.declared.reader.Output.TheVariants.{Missing, Value}
 use Rattle.steps.specs.Answers.{Rec, rec_at, chain, tape_of}
 use Rattle.steps.specs.Table.{within, handle, record_ok, context_after, word, link_ok, may_follow, chain_ok, shape_ok, table_ok}
 use Rattle.steps.specs.Parts.{is_part, output_of, last_of, last_output, parts_from}
@@ -20,15 +18,15 @@ use Rattle.steps.proofs.TableCheck.{follow_link, follow_rule, follow_facts, chai
 use Rattle.steps.proofs.Parts.{parts_on, parts_off}
 
 -- FIRST OF TWO
-pub or_else_none : {A : Type 0} (x : Option A) → or_else x none ≡ x
+pub or_else_none : {A : Type 0} (x : Option A) → or_else x None ≡ x
 unfolding or_else
-or_else_none none = refl
-or_else_none (some a) = refl
+or_else_none None = refl
+or_else_none (Some a) = refl
 
 pub or_else_assoc : {A : Type 0} (x y z : Option A) → or_else (or_else x y) z ≡ or_else x (or_else y z)
 unfolding or_else
-or_else_assoc none y z = refl
-or_else_assoc (some a) y z = refl
+or_else_assoc None y z = refl
+or_else_assoc (Some a) y z = refl
 
 -- REPLY 5'S RULE along a chain, where a part that comes first would belong to an answer of kind `context`
 unfoldable pub GoodFrom : ℕ → ℕ → List Rec → Type 0
@@ -84,25 +82,25 @@ unfoldable pub past_parts : List Rec → List Rec
 past_parts [] = []
 past_parts (r ∷ rs) = cond (is_part r.kind) (past_parts rs) (r ∷ rs)
 
-unfoldable pub option_of : Output → Option ℕ
-option_of Missing = none
-option_of (Value b) = some b
+unfoldable pub option_of : (Option ℕ) → Option ℕ
+option_of None = None
+option_of (Some b) = Some b
 
-last_output_lem : (output : Output) (kind b : ℕ) → option_of (last_output output kind b) ≡ or_else (cond (eqb kind 18) (some b) none) (option_of output)
+last_output_lem : (output : (Option ℕ)) (kind b : ℕ) → option_of (last_output output kind b) ≡ or_else (cond (eqb kind 18) (Some b) None) (option_of output)
 unfolding last_output output_of last_of option_of or_else
 last_output_lem output kind b = go (eqb kind 18)
   where
-    go : (x : Bool) → option_of (last_of output (cond x (Value b) Missing)) ≡ or_else (cond x (some b) none) (option_of output)
+    go : (x : Bool) → option_of (last_of output (cond x (Some b) None)) ≡ or_else (cond x (Some b) None) (option_of output)
     go true = refl
     go false = refl
 
 module _ (content : Content) (proposer : ℕ) where
-  pub parts_output : (output : Output) (i : ℕ) (rs : List Rec) → option_of (parts_from content proposer output i rs).output ≡ or_else (last_output_in rs) (option_of output)
+  pub parts_output : (output : (Option ℕ)) (i : ℕ) (rs : List Rec) → option_of (parts_from content proposer output i rs).output ≡ or_else (last_output_in rs) (option_of output)
   unfolding parts_from last_output_in or_else
   parts_output output i [] = refl
   parts_output output i (r ∷ rs) = go (is_part r.kind) refl (parts_output (last_output output r.kind r.b) r.next rs)
     where
-      later : Output
+      later : (Option ℕ)
       later = last_output output r.kind r.b
 
       go : (x : Bool) → is_part r.kind ≡ x → option_of (parts_from content proposer later r.next rs).output ≡ or_else (last_output_in rs) (option_of later)
@@ -110,7 +108,7 @@ module _ (content : Content) (proposer : ℕ) where
       go true e ih = rw (parts_on content proposer output i r rs e, e, ih, last_output_lem output r.kind r.b) (sym (or_else_assoc (last_output_in rs) _ (option_of output)))
       go false e ih = rw (parts_off content proposer output i r rs e, e)
 
-  pub parts_rest : (output : Output) (i : ℕ) (rs : List Rec) → (parts_from content proposer output i rs).tape.rest ≡ past_parts rs
+  pub parts_rest : (output : (Option ℕ)) (i : ℕ) (rs : List Rec) → (parts_from content proposer output i rs).tape.rest ≡ past_parts rs
   unfolding parts_from past_parts
   parts_rest output i [] = refl
   parts_rest output i (r ∷ rs) = go (is_part r.kind) refl (parts_rest (last_output output r.kind r.b) r.next rs)
@@ -179,13 +177,13 @@ past_good n context (r ∷ rs) g = go (is_part r.kind) refl (past_good n context
 
 -- a decision that is there is 0 or 1
 unfoldable pub Bit : Option ℕ → Type 0
-Bit none = Unit {0}
-Bit (some d) = d ≤ 1
+Bit None = Unit {0}
+Bit (Some d) = d ≤ 1
 
 pub bit_or : (x y : Option ℕ) → Bit x → Bit y → Bit (or_else x y)
 unfolding or_else
-bit_or none y a b = b
-bit_or (some x) y a b = a
+bit_or None y a b = b
+bit_or (Some x) y a b = a
 
 output_rule : (n context a b : ℕ) → 4 < context → record_ok n context 18 a b ≡ true → b ≤ 1
 unfolding record_ok
@@ -199,11 +197,11 @@ unfolding last_output_in GoodFrom Bit
 output_bit n context [] h g = tt
 output_bit n context (r ∷ rs) h g = go (is_part r.kind) refl (output_bit n context rs h)
   where
-    here : (x : Bool) → eqb r.kind 18 ≡ x → Bit (cond x (some r.b) none)
+    here : (x : Bool) → eqb r.kind 18 ≡ x → Bit (cond x (Some r.b) None)
     here true e = output_rule n context r.a r.b h (rw (eqb-true r.kind 18 e) at g.0)
     here false e = tt
 
-    go : (x : Bool) → is_part r.kind ≡ x → (GoodFrom n context rs → Bit (last_output_in rs)) → Bit (cond x (or_else (last_output_in rs) (cond (eqb r.kind 18) (some r.b) none)) none)
+    go : (x : Bool) → is_part r.kind ≡ x → (GoodFrom n context rs → Bit (last_output_in rs)) → Bit (cond x (or_else (last_output_in rs) (cond (eqb r.kind 18) (Some r.b) None)) None)
     go true e ih = bit_or (last_output_in rs) _ (ih (rw (part_context context r.kind r.a e) at g.1)) (here (eqb r.kind 18) refl)
     go false e ih = tt
 
@@ -234,7 +232,7 @@ kind7 = record { rule = λ n context a b. refl; opens = λ context. refl }
 
 -- of the chain ws an answer of kind k about p was read, with its parts; its last output is o, and r is left
 pub record Heard (n k p : ℕ) (ws : List Rec) (o : Option ℕ) (r : List Rec) : Type 0 where
-  pub first : (is : ℕ → Bool) → NoPart is → (q : ℕ) → first_taken is q ws ≡ or_else (cond (is k && eqb p q) o none) (first_taken is q r)
+  pub first : (is : ℕ → Bool) → NoPart is → (q : ℕ) → first_taken is q ws ≡ or_else (cond (is k && eqb p q) o None) (first_taken is q r)
   pub asking : (kind : ℕ) → is_part kind ≡ false → (q : ℕ) → is_asked kind q ws ≡ ((eqb k kind && eqb p q) || is_asked kind q r)
   pub named : p < n
   pub bit : 4 < k → Bit o

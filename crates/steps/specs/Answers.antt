@@ -1,8 +1,9 @@
 -- The answer table as the chain of its records, and what a reader of it is told.
-use Rattle.std.specs.Prelude.{ℕ, zero, suc, ◌+◌, ◌-◌, ◌*◌, ◌/◌, List, [], ◌∷◌, Bool, true, false, cond, ◌&&◌, length, get_or, ltb, eqb}
+use Rattle.std.specs.Prelude.{ℕ, zero, suc, ◌+◌, ◌-◌, ◌*◌, ◌/◌, List, [], ◌∷◌, Bool, true, false, cond, ◌&&◌, length, get_or, ltb, eqb, Option, Some, None}
 use Rattle.steps.specs.declared.reader.Cursor.{Cursor}
 use Rattle.steps.specs.declared.reader.Answer.{Answer}
 use Rattle.steps.specs.declared.reader.Answer.TheVariants.{Got, Refused}
+use Rattle.steps.specs.declared.reader.Record.{Record as ReadRecord}
 use Rattle.steps.specs.declared.reader.Found.{Found}
 use Rattle.steps.specs.declared.reader.Found.TheVariants.{Record, End}
 use Rattle.steps.specs.Verdicts.{Verdict, going, refused, number_of}
@@ -61,6 +62,16 @@ cursor_at t i = record { place = i; last = last_index t }
 unfoldable pub head_of : List Rec → Found
 head_of [] = End
 head_of (r ∷ rs) = Record r.next r.kind r.a r.b
+
+-- the first record of a chain
+unfoldable pub first_record : List Rec → Option ReadRecord
+first_record [] = None
+first_record (r ∷ rs) = Some (record { next = r.next; kind = r.kind; a = r.a; b = r.b })
+
+-- no answer is left unread
+unfoldable pub is_end : List Rec → Bool
+is_end [] = true
+is_end (r ∷ rs) = false
 
 -- what an answer comes to: the run goes on with its words a and b, or is refused
 abbrev pub verdict_of : Answer → Verdict (ℕ × ℕ)

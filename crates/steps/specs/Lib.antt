@@ -1,9 +1,12 @@
 pub mod Numbers
 pub mod Table
 pub mod Verdicts
+pub mod Kinds
 pub mod Answers
+pub mod Told
 pub mod Steps
 pub mod Runs
+pub mod Written
 pub mod Parts
 pub mod Taken
 pub mod Bits

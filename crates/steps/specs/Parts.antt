@@ -3,8 +3,8 @@ use Rattle.std.specs.Prelude.{ℕ, List, [], ◌∷◌, ◌++◌, Bool, true, fa
 use Rattle.steps.specs.Numbers.{message_part, fault_part, output_part, broadcast_content, agreement_content, broadcast_fault, agreement_fault}
 use Rattle.steps.specs.declared.reader.Content.{Content}
 use Rattle.steps.specs.declared.reader.Content.TheVariants.{Broadcast, Agreement}
-use Rattle.steps.specs.declared.reader.Output.{Output}
-use Rattle.steps.specs.declared.reader.Output.TheVariants.{Missing, Value}
+use Rattle.std.specs.Prelude.{Option}
+use Rattle.std.specs.Prelude.{None, Some}
 use Rattle.steps.specs.declared.reader.Parts.{Parts}
 use Rattle.steps.specs.Answers.{Rec, Tape, tape}
 use Rattle.steps.specs.Steps.{Entry, message, fault, out}
@@ -30,25 +30,25 @@ part_entries content proposer kind a b =
     (cond (eqb kind fault_part) (fault (fault_kind content) a b ∷ []) [])
 
 -- the output of one part: the b of an 18
-unfoldable pub output_of : ℕ → ℕ → Output
-output_of kind b = cond (eqb kind output_part) (Value b) Missing
+unfoldable pub output_of : ℕ → ℕ → (Option ℕ)
+output_of kind b = cond (eqb kind output_part) (Some b) None
 
 -- "Of several outputs the last counts, as `pop` does"
-unfoldable pub last_of : Output → Output → Output
-last_of earlier Missing = earlier
-last_of earlier (Value b) = Value b
+unfoldable pub last_of : (Option ℕ) → (Option ℕ) → (Option ℕ)
+last_of earlier None = earlier
+last_of earlier (Some b) = Some b
 
-unfoldable pub last_output : Output → ℕ → ℕ → Output
+unfoldable pub last_output : (Option ℕ) → ℕ → ℕ → (Option ℕ)
 last_output output kind b = last_of output (output_of kind b)
 
 -- what parts come to: the last output, where the reader stands, and the entries
 pub record PartsTold : Type 0 where
-  pub output : Output
+  pub output : (Option ℕ)
   pub tape : Tape
   pub log : List Entry
 
 -- the parts from here on, where `output` is the last so far and the reader stands at place i
-unfoldable pub parts_from : Content → ℕ → Output → ℕ → List Rec → PartsTold
+unfoldable pub parts_from : Content → ℕ → (Option ℕ) → ℕ → List Rec → PartsTold
 parts_from content proposer output i [] = record { output = output; tape = tape i []; log = [] }
 parts_from content proposer output i (r ∷ rs) =
     elim (is_part r.kind) [
@@ -57,13 +57,13 @@ parts_from content proposer output i (r ∷ rs) =
       | false ↦ record { output = output; tape = tape i (r ∷ rs); log = [] }
     ]
 
-abbrev pub told_by : {S : Type 0} → S → PartsTold → Run S Output
+abbrev pub told_by : {S : Type 0} → S → PartsTold → Run S (Option ℕ)
 told_by s told = record { state = s; verdict = going told.output; tape = told.tape; log = told.log }
 
 -- reading the parts of an answer, in any layer
-abbrev pub read_parts : {S : Type 0} → Content → ℕ → S → Tape → Run S Output
-read_parts content proposer s p = told_by s (parts_from content proposer Missing p.place p.rest)
+abbrev pub read_parts : {S : Type 0} → Content → ℕ → S → Tape → Run S (Option ℕ)
+read_parts content proposer s p = told_by s (parts_from content proposer None p.place p.rest)
 
 -- what the reader leaves; it has no state of its own
-abbrev pub left : Parts → Tape → List ℕ → Left (Unit {0}) Output
+abbrev pub left : Parts → Tape → List ℕ → Left (Unit {0}) (Option ℕ)
 left r p w = record { state = tt; verdict = going r.output; tape = p; out = out r.step w }

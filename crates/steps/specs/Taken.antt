@@ -1,34 +1,34 @@
 -- What a chain of answers tells: outputs, plaintexts, votes and readings (document 01, 'Rules to keep').
 use Rattle.std.specs.Prelude.{ℕ, zero, suc, ◌+◌, List, [], ◌∷◌, ◌++◌, Bool, true, false, cond, ◌&&◌, ◌||◌, eqb}
-use Rattle.std.proofs.Math.Option.{Option, none, some}
+use Rattle.std.specs.Prelude.{Option, None, Some}
 use Rattle.steps.specs.Numbers.{broadcast_proposal, broadcast_message, agreement_message, propose_false, ciphertext_reads, contribution_decrypted, contribution_reads, output_part}
 use Rattle.steps.specs.Table.{within}
 use Rattle.steps.specs.Answers.{Rec}
 use Rattle.steps.specs.Parts.{is_part}
 
 unfoldable pub or_else : {A : Type 0} → Option A → Option A → Option A
-or_else none y = y
-or_else (some x) y = some x
+or_else None y = y
+or_else (Some x) y = Some x
 
 unfoldable pub is_there : Option ℕ → Bool
-is_there none = false
-is_there (some x) = true
+is_there None = false
+is_there (Some x) = true
 
 -- "true being 1"
 unfoldable pub is_true : Option ℕ → Bool
-is_true none = false
-is_true (some d) = eqb d 1
+is_true None = false
+is_true (Some d) = eqb d 1
 
 -- the last output among the parts that stand first
 unfoldable pub last_output_in : List Rec → Option ℕ
-last_output_in [] = none
+last_output_in [] = None
 last_output_in (r ∷ rs) =
-    cond (is_part r.kind) (or_else (last_output_in rs) (cond (eqb r.kind output_part) (some r.b) none)) none
+    cond (is_part r.kind) (or_else (last_output_in rs) (cond (eqb r.kind output_part) (Some r.b) None)) None
 
 -- "the last output of the first […] answer for it that has an output", of the kinds that `is` tells
 unfoldable pub first_taken : (ℕ → Bool) → ℕ → List Rec → Option ℕ
-first_taken is p [] = none
-first_taken is p (r ∷ rs) = or_else (cond (is r.kind && eqb r.b p) (last_output_in rs) none) (first_taken is p rs)
+first_taken is p [] = None
+first_taken is p (r ∷ rs) = or_else (cond (is r.kind && eqb r.b p) (last_output_in rs) None) (first_taken is p rs)
 
 -- "the value taken for a proposer is the last output of the first kind 3 or 4 answer for it that has an output"
 abbrev pub of_value : ℕ → Bool
@@ -51,17 +51,17 @@ ones_from decision (suc m) p = cond (is_true (decision p)) 1 0 + ones_from decis
 -- "12 [concerns] that of the last 8 before it in the call, in a share message that of the message's proposer": the proposer that a 12
 -- concerns after a record, where it was `who` before it
 unfoldable pub concerned_after : Option ℕ → Rec → Option ℕ
-concerned_after who r = cond (eqb r.kind ciphertext_reads) (some r.b) who
+concerned_after who r = cond (eqb r.kind ciphertext_reads) (Some r.b) who
 
 unfoldable pub concerns : Option ℕ → ℕ → Bool
-concerns none p = false
-concerns (some q) p = eqb q p
+concerns None p = false
+concerns (Some q) p = eqb q p
 
 -- the handle of the first 12 that concerns proposer p
 unfoldable pub first_decrypted : ℕ → Option ℕ → List Rec → Option ℕ
-first_decrypted p who [] = none
+first_decrypted p who [] = None
 first_decrypted p who (r ∷ rs) =
-    or_else (cond (eqb r.kind contribution_decrypted && concerns who p) (some r.b) none) (first_decrypted p (concerned_after who r) rs)
+    or_else (cond (eqb r.kind contribution_decrypted && concerns who p) (Some r.b) None) (first_decrypted p (concerned_after who r) rs)
 
 -- the 13s of a chain
 unfoldable pub thirteens_in : List Rec → List Rec

@@ -2,6 +2,7 @@
 #![tactic(auto)]
 
 pub mod bits;
+pub mod kinds;
 pub mod numbers;
 pub mod reader;
 pub mod step;

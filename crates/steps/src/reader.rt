@@ -2,9 +2,12 @@
 //
 // What reads answers is there three times, here and in each layer above. `.._at` does the work at a place. The public function is lent a cursor
 // and lends its place on. `.._from`, for callers that hold a place, makes the table's cursor there and lends it.
-ghost use Rattle.std.specs.Prelude.{◌≡◌};
-ghost use Rattle.steps.specs.Answers.{chain, tape_at, asked, head_of, ask, ask_about, last_index, cursor_at};
+ghost use Rattle.std.specs.Prelude.{◌≡◌, cond, ltb, Some, Ok, drop};
+ghost use Rattle.steps.specs.Answers.{chain, tape, tape_at, first_record, is_end, asked, head_of, ask, ask_about, last_index, cursor_at};
 ghost use Rattle.steps.specs.Steps.{out, put_all};
+ghost use Rattle.steps.specs.Kinds.{answer_number, message_number, fault_number};
+ghost use Rattle.steps.specs.Written.{out_of, same_table, left_stateless};
+ghost use Rattle.steps.specs.Told.{told, heard_in, taken};
 ghost use Rattle.steps.specs.Runs.{leaves};
 ghost use Rattle.steps.specs.Parts.{is_part, message_kind, fault_kind, part_entries, output_of, last_of, last_output, left, read_parts};
 
@@ -12,13 +15,42 @@ use crate::numbers::{
     AGREEMENT_CONTENT, AGREEMENT_FAULT, BROADCAST_CONTENT, BROADCAST_FAULT, FAULT_PART,
     MESSAGE_PART, OUTPUT_PART,
 };
-use crate::step::Step;
+use crate::kinds::{AnswerKind, FaultKind, MessageKind, Stop};
+use crate::step::{Step, Writer};
+use std::marker::Model;
 
 // Where a reader stands in an answer table: the index of the record to be read next, 0 at the end, and the index of the last record.
 #[derive(Clone, Copy)]
 pub struct Cursor {
     pub place: usize,
     pub last: usize,
+}
+
+// A record of the answer table, with the place after it.
+#[derive(Clone, Copy, Debug, PartialEq, Eq)]
+pub struct Record {
+    pub next: usize,
+    pub kind: u64,
+    pub a: u64,
+    pub b: u64,
+}
+
+// A reader of an answer table, lent to each layer. Clauses see the place that it has come to and the records from there on.
+#[derive(Drop)]
+pub struct Reader<'a> {
+    answers: &'a [u64],
+    cursor: Cursor,
+}
+
+impl<'a> Model for Reader<'a> {
+    ghost use Rattle.std.specs.Prelude.{◌≡◌};
+    ghost use Rattle.steps.specs.Answers.{Tape, tape_at, last_index};
+
+    ghost Value = { Tape };
+
+    ghost view = { λ r. tape_at r.answers.now r.cursor.place };
+
+    ghost invariant = { λ r. r.cursor.last ≡ last_index r.answers.now };
 }
 
 // What stands at a place of the answer table.
@@ -40,13 +72,6 @@ pub enum Answer {
     Refused,
 }
 
-// The output of an answer, if it had one.
-#[derive(Clone, Copy)]
-pub enum Output {
-    Missing,
-    Value(u64),
-}
-
 // Whose parts they are: a broadcast's or an agreement's.
 #[derive(Clone, Copy)]
 pub enum Content {
@@ -57,7 +82,7 @@ pub enum Content {
 // What the parts of an answer came to: their last output, and the step with their messages and faults.
 #[derive(Clone, Copy)]
 pub struct Parts {
-    pub output: Output,
+    pub output: Option<u64>,
     pub step: Step,
 }
 
@@ -242,26 +267,26 @@ fn part_entry(
 }
 
 // The output of one part.
-fn output_of(kind: u64, b: u64) -> Output
+fn output_of(kind: u64, b: u64) -> Option<u64>
     ensures { result ≡ output_of kind b }
 {
     if kind == OUTPUT_PART {
-        return Output::Value(b);
+        return Some(b);
     }
-    Output::Missing
+    None
 }
 
 // Of several outputs the last counts, as `pop` does.
-fn last_of(earlier: Output, later: Output) -> Output
+fn last_of(earlier: Option<u64>, later: Option<u64>) -> Option<u64>
     ensures { result ≡ last_of earlier later }
 {
     match later {
-        Output::Missing => earlier,
-        Output::Value(_) => later,
+        None => earlier,
+        Some(_) => later,
     }
 }
 
-fn last_output(output: Output, kind: u64, b: u64) -> Output
+fn last_output(output: Option<u64>, kind: u64, b: u64) -> Option<u64>
     ensures { result ≡ last_output output kind b }
 {
     let part = output_of(kind, b);
@@ -281,7 +306,7 @@ fn read_parts_at(
     ensures { left result (tape_at answers.now place.new) words.new
         ≡ leaves (out step words.old) (read_parts content proposer tt (tape_at answers.now place.old)) }
 {
-    let mut output = Output::Missing;
+    let mut output = None;
     let mut s = step;
     loop {
         let at = *place;
@@ -339,4 +364,159 @@ pub fn read_parts_from(
     let parts = read_parts(&mut cursor, answers, content, proposer, step, words);
     *place = cursor.place;
     parts
+}
+
+// The place after a record that stands at a place. A next that is not above its own record ends the chain.
+fn link(place: usize, next: usize) -> usize
+    ensures { result ≡ cond (ltb place next) next 0 }
+{
+    if place < next { next } else { 0 }
+}
+
+// The record at a place, where the table has one.
+fn record_at(answers: &[u64], place: usize, last: usize) -> Option<Record>
+    requires { last ≡ last_index answers.now }
+    ensures { result ≡ first_record (chain answers.now place) }
+{
+    if place == 0 {
+        return None;
+    }
+    if last < place {
+        return None;
+    }
+    let word = place * 4;
+    Some(Record {
+        next: link(place, answers[word] as usize),
+        kind: answers[word + 1],
+        a: answers[word + 2],
+        b: answers[word + 3],
+    })
+}
+
+impl Content {
+    // The kind of its messages in the step.
+    fn messages(self) -> MessageKind
+        ensures { message_number result ≡ message_kind self }
+    {
+        match self {
+            Content::Broadcast => MessageKind::Broadcast,
+            Content::Agreement => MessageKind::Agreement,
+        }
+    }
+
+    // The kind of its faults.
+    fn faults(self) -> FaultKind
+        ensures { fault_number result ≡ fault_kind self }
+    {
+        match self {
+            Content::Broadcast => FaultKind::BroadcastFault,
+            Content::Agreement => FaultKind::AgreementFault,
+        }
+    }
+}
+
+impl Record {
+    // Writes a part's message or fault.
+    fn write_part(self, content: Content, proposer: usize, writer: &mut Writer)
+        ensures step { out_of writer.new ≡ put_all (out_of writer.old) (part_entries content proposer self.kind self.a self.b) }
+        ensures table { same_table writer.old writer.new }
+    {
+        if self.kind == MESSAGE_PART {
+            writer.message(content.messages(), proposer as u64, self.b);
+        } else if self.kind == FAULT_PART {
+            writer.fault(content.faults(), self.a, self.b);
+        }
+    }
+}
+
+impl<'a> Reader<'a> {
+    // A reader at a place of a table.
+    pub fn new(answers: &'a [u64], place: usize) -> Self
+        ensures { result ≡ tape_at answers.now place }
+    {
+        let last = last_index(answers);
+        Reader {
+            answers,
+            cursor: Cursor { place, last },
+        }
+    }
+
+    // The next record, which is not taken.
+    fn peek(&self) -> Option<Record>
+        ensures { result ≡ first_record self.now.rest }
+    {
+        record_at(self.answers, self.cursor.place, self.cursor.last)
+    }
+
+    // Whether no answer is left unread.
+    pub fn is_end(&self) -> bool
+        ensures { result ≡ is_end self.now.rest }
+    {
+        self.peek().is_none()
+    }
+
+    // Goes on past the next record.
+    fn pass(&mut self, found: Record)
+        requires { first_record self.old.rest ≡ Some found }
+        ensures { self.new ≡ tape found.next (drop 1 self.old.rest) }
+    {
+        self.cursor.place = found.next;
+    }
+
+    // The next record, if it is the wanted one.
+    fn take(&mut self, found: Record, wanted: bool) -> Result<(u64, u64), Stop>
+        requires { first_record self.old.rest ≡ Some found }
+        ensures { told result self.new ≡ taken wanted found self.old }
+    {
+        if !wanted {
+            return Err(Stop::NotNext);
+        }
+        self.pass(found);
+        Ok((found.a, found.b))
+    }
+
+    // The next answer, which has to be of this kind: its words a and b.
+    pub fn ask(&mut self, kind: AnswerKind) -> Result<(u64, u64), Stop>
+        ensures { told result self.new ≡ heard_in (ask self.old (answer_number kind)) }
+    {
+        let Some(found) = self.peek() else {
+            return Err(Stop::NotNext);
+        };
+        self.take(found, found.kind == u64::from(kind))
+    }
+
+    // The next answer, which has to be of this kind and about this node.
+    pub fn ask_about(&mut self, kind: AnswerKind, who: usize) -> Result<(u64, u64), Stop>
+        ensures { told result self.new ≡ heard_in (ask_about self.old (answer_number kind) who) }
+    {
+        let Some(found) = self.peek() else {
+            return Err(Stop::NotNext);
+        };
+        self.take(
+            found,
+            (found.kind == u64::from(kind)) & (found.b == who as u64),
+        )
+    }
+
+    // Reads the parts of an answer to their end: their last output, with their messages and faults in the step.
+    pub fn read_parts(
+        &mut self,
+        content: Content,
+        proposer: usize,
+        writer: &mut Writer,
+    ) -> Option<u64>
+        ensures parts { left_stateless (Ok result) self.new writer.new ≡ leaves (out_of writer.old) (read_parts content proposer tt self.old) }
+        ensures table { same_table writer.old writer.new }
+    {
+        let mut output = None;
+        while let Some(found) = self.peek() {
+            if !is_part(found.kind) {
+                return output;
+            }
+            found.write_part(content, proposer, writer);
+            output = last_output(output, found.kind, found.b);
+            self.pass(found);
+        }
+        output
+    }
 }

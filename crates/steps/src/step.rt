@@ -3,8 +3,11 @@
 // A call runs twice. The first run has no table and only counts; the second knows the counts, so that each record goes to its final
 // place at once and the last record of each chain has no next.
 ghost use Rattle.std.specs.Prelude.{◌≡◌, ◌≤◌, length};
+ghost use Rattle.steps.specs.Kinds.{message_number, fault_number, output_number};
+ghost use Rattle.steps.specs.Written.{out_of, same_table};
 ghost use Rattle.steps.specs.Steps.{out, chained, put_entry, put_at, advance, next_of, message, fault, output, counting, writing, records, first_of, put_header, Counted};
 
+use crate::kinds::{FaultKind, MessageKind, OutputKind};
 use crate::numbers::COUNT_LIMIT;
 
 // The records of one list: the index of the one that is written next, and the index past the last.
@@ -19,6 +22,13 @@ pub struct Step {
     pub messages: Chain,
     pub faults: Chain,
     pub outputs: Chain,
+}
+
+// A step with the table that it is written to, lent to each layer.
+#[derive(Drop)]
+pub struct Writer<'a> {
+    pub step: Step,
+    pub words: &'a mut [u64],
 }
 
 // The next of the record before record `i`: none at the end of its chain.
@@ -161,5 +171,31 @@ impl Step {
         words[1] = faults.first();
         words[2] = outputs.first();
         words[3] = epoch;
+    }
+}
+
+impl Writer<'_> {
+    pub fn message(&mut self, kind: MessageKind, a: u64, b: u64)
+        ensures step { out_of self.new ≡ put_entry (out_of self.old) (message (message_number kind) a b) }
+        ensures table { same_table self.old self.new }
+    {
+        let messages = self.step.messages;
+        self.step.messages = messages.put(self.words, u64::from(kind), a, b);
+    }
+
+    pub fn fault(&mut self, kind: FaultKind, a: u64, b: u64)
+        ensures step { out_of self.new ≡ put_entry (out_of self.old) (fault (fault_number kind) a b) }
+        ensures table { same_table self.old self.new }
+    {
+        let faults = self.step.faults;
+        self.step.faults = faults.put(self.words, u64::from(kind), a, b);
+    }
+
+    pub fn output(&mut self, kind: OutputKind, a: u64, b: u64)
+        ensures step { out_of self.new ≡ put_entry (out_of self.old) (output (output_number kind) a b) }
+        ensures table { same_table self.old self.new }
+    {
+        let outputs = self.step.outputs;
+        self.step.outputs = outputs.put(self.words, u64::from(kind), a, b);
     }
 }

@@ -3,7 +3,7 @@ use Prim.Native.Nat.{ℕ, zero, suc, ◌+◌, ◌<◌}
 use mathlib.Core.Path.{◌≡◌, refl, sym, ap, ◌∙◌}
 use mathlib.Core.List.{List}
 use mathlib.Core.Bool.{Bool, true, false, ◌&&◌, not, false≢true}
-use mathlib.Core.Option.{Option, none, some}
+use Rattle.std.specs.Prelude.{Option, None, Some}
 use native.Mathlib.Omega.{arith}
 use lib.ListN.{length, get_or}
 use lib.Dec.{eqb}
@@ -31,20 +31,20 @@ is_out v d q = is_there (output_of (v q) (d q))
 abbrev pub is_new : (ℕ → Bool) → (ℕ → Option ℕ) → (ℕ → Option ℕ) → ℕ → Bool
 is_new old v d q = is_out v d q && not (old q)
 
-there : (o : Option ℕ) (x : ℕ) → o ≡ some x → is_there o ≡ true
+there : (o : Option ℕ) (x : ℕ) → o ≡ Some x → is_there o ≡ true
 unfolding is_there
 there o x e = rw e
 
-not_there : (o : Option ℕ) → o ≡ none → is_there o ≡ false
+not_there : (o : Option ℕ) → o ≡ None → is_there o ≡ false
 unfolding is_there
 not_there o e = rw e
 
-tagged : (a b : Option ℕ) (x : ℕ) → output_of a b ≡ some x → proposal_of (tag_of (state_of a b)) x ≡ state_of a b
+tagged : (a b : Option ℕ) (x : ℕ) → output_of a b ≡ Some x → proposal_of (tag_of (state_of a b)) x ≡ state_of a b
 unfolding proposal_of tag_of
-tagged none b x e = let z : ◌≡◌ {A = ℕ} 0 1 = cc in absurd (omega arith)
-tagged (some v) none x e = let z : ◌≡◌ {A = ℕ} 0 1 = cc in absurd (omega arith)
-tagged (some v) (some zero) x e = let z : ◌≡◌ {A = ℕ} 0 1 = cc in absurd (omega arith)
-tagged (some v) (some (suc d)) x e = refl
+tagged None b x e = let z : ◌≡◌ {A = ℕ} 0 1 = cc in absurd (omega arith)
+tagged (Some v) None x e = let z : ◌≡◌ {A = ℕ} 0 1 = cc in absurd (omega arith)
+tagged (Some v) (Some zero) x e = let z : ◌≡◌ {A = ℕ} 0 1 = cc in absurd (omega arith)
+tagged (Some v) (Some (suc d)) x e = refl
 
 module _ (old : ℕ → Bool) where
   -- THE INVARIANT. v and d are the values and decisions taken so far
@@ -55,7 +55,7 @@ module _ (old : ℕ → Bool) where
     pub count : get_or w count_at 0 ≡ count_if (is_new old v d) n 0
     pub gone : (q : ℕ) → old q ≡ true → is_out v d q ≡ true
     pub listed : (q : ℕ) → q < n → is_out v d q ≡ true → old q ≡ false → Listed n w q
-    pub entries : (i q : ℕ) → i < get_or w count_at 0 → get_or w (arrival_at n i) 0 ≡ q → (q < n) × (output_of (v q) (d q) ≡ some (get_or w (value_at n q) 0))
+    pub entries : (i q : ℕ) → i < get_or w count_at 0 → get_or w (arrival_at n i) 0 ≡ q → (q < n) × (output_of (v q) (d q) ≡ Some (get_or w (value_at n q) 0))
     -- nobody stands there twice
     pub once : (i j : ℕ) → i < get_or w count_at 0 → j < get_or w count_at 0 → get_or w (arrival_at n i) 0 ≡ get_or w (arrival_at n j) 0 → i ≡ j
     -- nor any of the old ones
@@ -63,7 +63,7 @@ module _ (old : ℕ → Bool) where
 
   -- A MOVE of p's proposal, which has not been output before
   module _ (n p : ℕ) (w : List ℕ) (v d v' d' : ℕ → Option ℕ) (h : Held n w v d) (inside : p < n) (same : (q : ℕ) → (q ≡ p → ⊥) → (v' q ≡ v q) × (d' q ≡ d q))
-      (bit : Bit (d' p)) (before : output_of (v p) (d p) ≡ none) where
+      (bit : Bit (d' p)) (before : output_of (v p) (d p) ≡ None) where
     abbrev state : ProposalState
     state = state_of (v' p) (d' p)
 
@@ -97,14 +97,14 @@ module _ (old : ℕ → Bool) where
     counts = store_word n w p state count_at (λ e. omega arith) (λ e. omega arith)
 
     -- an entry of before is another's, and stays
-    old_entry : (q : ℕ) → (q < n) × (output_of (v q) (d q) ≡ some (get_or w (value_at n q) 0)) → (q ≡ p → ⊥) × ((q < n) × (output_of (v' q) (d' q) ≡ some (get_or stored (value_at n q) 0)))
+    old_entry : (q : ℕ) → (q < n) × (output_of (v q) (d q) ≡ Some (get_or w (value_at n q) 0)) → (q ≡ p → ⊥) × ((q < n) × (output_of (v' q) (d' q) ≡ Some (get_or stored (value_at n q) 0)))
     old_entry q e =
         let ne : q ≡ p → ⊥ = other in
         (ne, (e.0, rw ((same q ne).0, (same q ne).1, values q ne) e.1))
       where
         other : q ≡ p → ⊥
         other z =
-            let a : output_of (v p) (d p) ≡ some (get_or w (value_at n p) 0) = rw z at e.1 in
+            let a : output_of (v p) (d p) ≡ Some (get_or w (value_at n p) 0) = rw z at e.1 in
             let y : ◌≡◌ {A = ℕ} 0 1 = cc in
             omega arith
 
@@ -123,7 +123,7 @@ module _ (old : ℕ → Bool) where
         other z = false≢true (sym new_here ∙ ap old (sym z) ∙ e)
 
     -- without an output
-    held_quiet : output_of (v' p) (d' p) ≡ none → Held n stored v' d'
+    held_quiet : output_of (v' p) (d' p) ≡ None → Held n stored v' d'
     held_quiet o = record {
       size = store_size n w p state ∙ h.size;
       load = loads;
@@ -150,7 +150,7 @@ module _ (old : ℕ → Bool) where
         other q t z = false≢true (sym (not_there (output_of (v' p) (d' p)) o) ∙ (rw z at t))
 
     -- with the output x
-    module _ (x : ℕ) (o : output_of (v' p) (d' p) ≡ some x) where
+    module _ (x : ℕ) (o : output_of (v' p) (d' p) ≡ Some x) where
       abbrev c : ℕ
       c = count_if (is_new old v d) n 0
 
@@ -206,10 +206,10 @@ module _ (old : ℕ → Bool) where
               let low : k.index < c = rw h.count at k.below in
               record { index = k.index; below = rw counts' (omega arith); who = arrivals' k.index (λ e. omega arith) ∙ k.who }
 
-      entries' : (i q : ℕ) → i < c + 1 → get_or joined (arrival_at n i) 0 ≡ q → (q < n) × (output_of (v' q) (d' q) ≡ some (get_or joined (value_at n q) 0))
+      entries' : (i q : ℕ) → i < c + 1 → get_or joined (arrival_at n i) 0 ≡ q → (q < n) × (output_of (v' q) (d' q) ≡ Some (get_or joined (value_at n q) 0))
       entries' i q l e = go (eqb i c) refl
         where
-          go : (y : Bool) → eqb i c ≡ y → (q < n) × (output_of (v' q) (d' q) ≡ some (get_or joined (value_at n q) 0))
+          go : (y : Bool) → eqb i c ≡ y → (q < n) × (output_of (v' q) (d' q) ≡ Some (get_or joined (value_at n q) 0))
           go true t =
               let z : q ≡ p = sym e ∙ ap (λ j. get_or joined (arrival_at n j) 0) (eqb-true i c t) ∙ add_arrival n stored p x c counted room inside sized in
               rw (z, add_value n stored p x c counted room inside sized) (inside, o)
@@ -278,5 +278,5 @@ module _ (old : ℕ → Bool) where
         decides = store_word n w p state decided_at (λ e. omega arith) (λ e. omega arith)
 
         go : (o : Option ℕ) → o ≡ output_of (v' p) (d' p) → After-move (contributed n stored p o)
-        go none f = record { held = held_quiet (sym f); decided = decides }
-        go (some x) f = record { held = held_joined x (sym f); decided = decided_joined x (sym f) ∙ decides }
+        go None f = record { held = held_quiet (sym f); decided = decides }
+        go (Some x) f = record { held = held_joined x (sym f); decided = decided_joined x (sym f) ∙ decides }

@@ -3,7 +3,7 @@ use Prim.Native.Nat.{ℕ, zero, suc, ◌+◌, ◌*◌, ◌-◌, ◌%◌, ◌^◌
 use mathlib.Core.Path.{◌≡◌, refl, ◌∙◌}
 use mathlib.Core.List.{List, [], ◌∷◌}
 use mathlib.Core.Bool.{Bool, true, false, cond}
-use mathlib.Core.Option.{Option, none, some}
+use Rattle.std.specs.Prelude.{Option, None, Some}
 use native.Mathlib.Omega.{arith}
 use native.Mathlib.Nat.{mul-add-mod_self_right, mod-eq_of_lt, two-pow-succ}
 use lib.ListN.{get_or, set, get_or-eq_default}
@@ -177,8 +177,8 @@ module _ (n : ℕ) (w : List ℕ) (p : ℕ) (h : EpochOk n w) where
 
   pub contributed_ok : (value : Option ℕ) → p < n → SmallOption value → EpochOk n (contributed n w p value)
   unfolding contributed SmallOption
-  contributed_ok none l u = h
-  contributed_ok (some value) l u = add_ok value l u
+  contributed_ok None l u = h
+  contributed_ok (Some value) l u = add_ok value l u
 
 pub drop_ok : (n m i : ℕ) (w : List ℕ) → 0 < n → EpochOk n w → EpochOk n (drop_from n m i w)
 unfolding drop_from

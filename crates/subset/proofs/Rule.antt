@@ -5,7 +5,7 @@ use mathlib.Core.Logic.{◌⊎◌, inl, inr}
 use mathlib.Core.List.Memᴰ
 use mathlib.Core.List.{List, [], ◌∷◌, ◌++◌, Memᴰ}
 use mathlib.Core.Bool.{Bool, true, false, cond, false≢true}
-use mathlib.Core.Option.{Option, none, some}
+use Rattle.std.specs.Prelude.{Option, None, Some}
 use native.Mathlib.Omega.{arith}
 use lib.ListN.{get_or, replicate, length-set, length-replicate}
 use lib.Seq.{get_or-set_other}
@@ -30,7 +30,7 @@ use Rattle.subset.proofs.TakenByCall.{Called, call_ok}
 use Rattle.subset.proofs.VotesAsked.{Whole, voted_whole}
 
 abbrev nothing : ℕ → Option ℕ
-nothing q = none
+nothing q = None
 
 -- nobody's contribution has been taken out of the list
 abbrev none_old : ℕ → Bool
@@ -62,11 +62,11 @@ next_call net comes v d ws w' done c =
 
 module _ (net : NetworkInfo) (comes : Bool) (v d : ℕ → Option ℕ) where
   read_whole : (ws : List Rec) (w' : List ℕ) (verdict : Verdict Bool) (p : Tape) (s : List ℕ) (log : List Entry) → GivesAs verdict s p log (λ done t z l. Called none_old net comes v d ws done t z.rest)
-      → words_as net verdict p.rest s ≡ some w' → Next net comes v d ws w'
+      → words_as net verdict p.rest s ≡ Some w' → Next net comes v d ws w'
   unfolding words_as
   read_whole ws w' (going done) p s log c e = go p.rest c e
     where
-      go : (l : List Rec) → Called none_old net comes v d ws done s l → words_as net (going done) l s ≡ some w' → Next net comes v d ws w'
+      go : (l : List Rec) → Called none_old net comes v d ws done s l → words_as net (going done) l s ≡ Some w' → Next net comes v d ws w'
       go [] c e = let z : s ≡ w' = cc in next_call net comes v d ws w' done (rw z at c)
       go (r ∷ rs) c e = let z : ◌≡◌ {A = ℕ} 0 1 = cc in absurd (omega arith)
   read_whole ws w' refused p s log c e = let z : ◌≡◌ {A = ℕ} 0 1 = cc in absurd (omega arith)
@@ -79,7 +79,7 @@ words_of net w x =
     words_as net r.verdict r.tape.rest r.state
 
 one_call : (net : NetworkInfo) (w : List ℕ) (v d : ℕ → Option ℕ) (x : SubsetEvent) (w' : List ℕ) → Known net w v d → table_ok net.num_nodes x.table ≡ true
-    → words_of net w x ≡ some w' → Next net (speaks net x.call) v d (answers x) w'
+    → words_of net w x ≡ Some w' → Next net (speaks net x.call) v d (answers x) w'
 one_call net w v d x w' k t e =
     let r = run_of net x.call w (tape_of x.table) in
     read_whole net (speaks net x.call) v d (answers x) w' r.verdict r.tape r.state r.log
@@ -94,7 +94,7 @@ unfolding taken_by
 up_to_cons is g x h = fun_ext (λ q. or_else_assoc (g q) (first_taken is q (answers x)) (taken_by is h q))
 
 run_known : (net : NetworkInfo) (h : List SubsetEvent) (w : List ℕ) (v d : ℕ → Option ℕ) (w' : List ℕ) → Known net w v d → tables_ok net.num_nodes h ≡ true
-    → words_after net w h ≡ some w' → Known net w' (up_to of_value v h) (up_to of_decision d h)
+    → words_after net w h ≡ Some w' → Known net w' (up_to of_value v h) (up_to of_decision d h)
 unfolding words_after tables_ok taken_by then_words
 run_known net [] w v d w' k t e =
     let z : w ≡ w' = cc in
@@ -105,34 +105,34 @@ run_known net (x ∷ xs) w v d w' k t e =
     ok : (table_ok net.num_nodes x.table ≡ true) × (tables_ok net.num_nodes xs ≡ true)
     ok = and-true (table_ok net.num_nodes x.table) (tables_ok net.num_nodes xs) t
 
-    go : (o : Option (List ℕ)) → words_of net w x ≡ o → then_words net o (λ w. words_after net w xs) ≡ some w'
-        → ((w₁ : List ℕ) → Known net w₁ (after of_value v (answers x)) (after of_decision d (answers x)) → words_after net w₁ xs ≡ some w'
+    go : (o : Option (List ℕ)) → words_of net w x ≡ o → then_words net o (λ w. words_after net w xs) ≡ Some w'
+        → ((w₁ : List ℕ) → Known net w₁ (after of_value v (answers x)) (after of_decision d (answers x)) → words_after net w₁ xs ≡ Some w'
         → Known net w' (up_to of_value (after of_value v (answers x)) xs) (up_to of_decision (after of_decision d (answers x)) xs))
         → Known net w' (up_to of_value v (x ∷ xs)) (up_to of_decision d (x ∷ xs))
-    go none o e f = let z : ◌≡◌ {A = ℕ} 0 1 = cc in absurd (omega arith)
-    go (some w₁) o e f =
+    go None o e f = let z : ◌≡◌ {A = ℕ} 0 1 = cc in absurd (omega arith)
+    go (Some w₁) o e f =
         subst₂ (λ (a b : ℕ → Option ℕ). Known net w' a b) (up_to_cons of_value v x xs) (up_to_cons of_decision d x xs)
         (f w₁ (one_call net w v d x w₁ k ok.0 o).known e)
 
 -- the words before the last call
 record Split (net : NetworkInfo) (w : List ℕ) (h : List SubsetEvent) (x : SubsetEvent) (w' : List ℕ) : Type 0 where
   between : List ℕ
-  first : words_after net w h ≡ some between
-  last : words_of net between x ≡ some w'
+  first : words_after net w h ≡ Some between
+  last : words_of net between x ≡ Some w'
 
-run_split : (net : NetworkInfo) (h : List SubsetEvent) (w : List ℕ) (x : SubsetEvent) (w' : List ℕ) → words_after net w (h ++ (x ∷ [])) ≡ some w' → Split net w h x w'
+run_split : (net : NetworkInfo) (h : List SubsetEvent) (w : List ℕ) (x : SubsetEvent) (w' : List ℕ) → words_after net w (h ++ (x ∷ [])) ≡ Some w' → Split net w h x w'
 unfolding words_after then_words
 run_split net [] w x w' e = go (words_of net w x) refl e
   where
-    go : (o : Option (List ℕ)) → words_of net w x ≡ o → then_words net o (λ w. words_after net w []) ≡ some w' → Split net w [] x w'
-    go none o e = let z : ◌≡◌ {A = ℕ} 0 1 = cc in absurd (omega arith)
-    go (some w₁) o e = record { between = w; first = refl; last = o ∙ e }
+    go : (o : Option (List ℕ)) → words_of net w x ≡ o → then_words net o (λ w. words_after net w []) ≡ Some w' → Split net w [] x w'
+    go None o e = let z : ◌≡◌ {A = ℕ} 0 1 = cc in absurd (omega arith)
+    go (Some w₁) o e = record { between = w; first = refl; last = o ∙ e }
 run_split net (y ∷ ys) w x w' e = go (words_of net w y) refl e (λ w₁ f. run_split net ys w₁ x w' f)
   where
-    go : (o : Option (List ℕ)) → words_of net w y ≡ o → then_words net o (λ w. words_after net w (ys ++ (x ∷ []))) ≡ some w'
-        → ((w₁ : List ℕ) → words_after net w₁ (ys ++ (x ∷ [])) ≡ some w' → Split net w₁ ys x w') → Split net w (y ∷ ys) x w'
-    go none o e f = let z : ◌≡◌ {A = ℕ} 0 1 = cc in absurd (omega arith)
-    go (some w₁) o e f =
+    go : (o : Option (List ℕ)) → words_of net w y ≡ o → then_words net o (λ w. words_after net w (ys ++ (x ∷ []))) ≡ Some w'
+        → ((w₁ : List ℕ) → words_after net w₁ (ys ++ (x ∷ [])) ≡ Some w' → Split net w₁ ys x w') → Split net w (y ∷ ys) x w'
+    go None o e f = let z : ◌≡◌ {A = ℕ} 0 1 = cc in absurd (omega arith)
+    go (Some w₁) o e f =
         let s = f w₁ e in
         record { between = s.between; first = rw o s.first; last = s.last }
 
@@ -167,7 +167,7 @@ unsettled (suc m) p h = refl
 
 pub new_over : (net : NetworkInfo) → Network net → is_over net nothing nothing ≡ false
 unfolding is_over
-new_over net k = rw (unsettled net.num_nodes 0 k.some)
+new_over net k = rw (unsettled net.num_nodes 0 k.Some)
 
 pub new_word : (n i : ℕ) → (i ≡ 0 → ⊥) → get_or (new_epoch n) i 0 ≡ 0
 unfolding new_epoch
@@ -195,7 +195,7 @@ new_known net k = record {
 
 -- after any run from a new epoch
 taken_known : (net : NetworkInfo) (h : List SubsetEvent) (w : List ℕ) → Network net → tables_ok net.num_nodes h ≡ true
-    → words_after net (new_epoch net.num_nodes) h ≡ some w → Known net w (taken_by of_value h) (taken_by of_decision h)
+    → words_after net (new_epoch net.num_nodes) h ≡ Some w → Known net w (taken_by of_value h) (taken_by of_decision h)
 unfolding or_else
 taken_known net h w k t e = run_known net h (new_epoch net.num_nodes) nothing nothing w (new_known net k) t e
 
@@ -227,13 +227,13 @@ found_member n (suc m) i w c j l h e = go (eqb j i) refl (found_member n m (i + 
     go false x f = let ne = eqb-false j i x in Memᴰ.tail (f (omega arith) (omega arith) e)
 
 -- an output is of a value decided 1
-output_of_lem : (a b : Option ℕ) (x : ℕ) → Bit b → output_of a b ≡ some x → (b ≡ some 1) × (a ≡ some x)
+output_of_lem : (a b : Option ℕ) (x : ℕ) → Bit b → output_of a b ≡ Some x → (b ≡ Some 1) × (a ≡ Some x)
 unfolding Bit
-output_of_lem none b x k e = let z : ◌≡◌ {A = ℕ} 0 1 = cc in absurd (omega arith)
-output_of_lem (some v) none x k e = let z : ◌≡◌ {A = ℕ} 0 1 = cc in absurd (omega arith)
-output_of_lem (some v) (some zero) x k e = let z : ◌≡◌ {A = ℕ} 0 1 = cc in absurd (omega arith)
-output_of_lem (some v) (some (suc zero)) x k e = (refl, e)
-output_of_lem (some v) (some (suc (suc d))) x k e = absurd (omega arith)
+output_of_lem None b x k e = let z : ◌≡◌ {A = ℕ} 0 1 = cc in absurd (omega arith)
+output_of_lem (Some v) None x k e = let z : ◌≡◌ {A = ℕ} 0 1 = cc in absurd (omega arith)
+output_of_lem (Some v) (Some zero) x k e = let z : ◌≡◌ {A = ℕ} 0 1 = cc in absurd (omega arith)
+output_of_lem (Some v) (Some (suc zero)) x k e = (refl, e)
+output_of_lem (Some v) (Some (suc (suc d))) x k e = absurd (omega arith)
 
 module _ (net : NetworkInfo) (w : List ℕ) (v d : ℕ → Option ℕ) (k : Known net w v d) where
   abbrev n : ℕ
@@ -246,21 +246,21 @@ module _ (net : NetworkInfo) (w : List ℕ) (v d : ℕ → Option ℕ) (k : Know
       go true = refl
       go false = refl
 
-  known_others : (c : Contribution) → Memᴰ c (contributions n w) → (c.proposer < n) × (d c.proposer ≡ some 1) × (v c.proposer ≡ some c.value)
+  known_others : (c : Contribution) → Memᴰ c (contributions n w) → (c.proposer < n) × (d c.proposer ≡ Some 1) × (v c.proposer ≡ Some c.value)
   known_others c h =
       let f = member_found n (get_or w count_at 0) 0 w c h in
       let who : get_or w (arrival_at n f.index) 0 ≡ c.proposer = sym (ap (λ x. x.proposer) f.is) in
       let word : get_or w (value_at n c.proposer) 0 ≡ c.value = ap (λ q. get_or w (value_at n q) 0) (sym who) ∙ sym (ap (λ x. x.value) f.is) in
       let t = k.held.entries f.index c.proposer (omega (arith, f.below)) who in
       let o = output_of_lem (v c.proposer) (d c.proposer) (get_or w (value_at n c.proposer) 0) (k.held.bits c.proposer) t.1 in
-      (t.0, o.0, o.1 ∙ ap some word)
+      (t.0, o.0, o.1 ∙ ap Some word)
 
-  known_handed : (p x : ℕ) → d p ≡ some 1 → v p ≡ some x → p < n → Memᴰ (record { proposer = p; value = x }) (contributions n w)
+  known_handed : (p x : ℕ) → d p ≡ Some 1 → v p ≡ Some x → p < n → Memᴰ (record { proposer = p; value = x }) (contributions n w)
   unfolding is_there
   known_handed p x e f l =
       let i = k.held.listed p l (rw (e, f)) refl in
-      let t : output_of (v p) (d p) ≡ some (get_or w (value_at n p) 0) = (k.held.entries i.index p i.below i.who).1 in
-      let here : some x ≡ some (get_or w (value_at n p) 0) = rw (e, f) at t in
+      let t : output_of (v p) (d p) ≡ Some (get_or w (value_at n p) 0) = (k.held.entries i.index p i.below i.who).1 in
+      let here : Some x ≡ Some (get_or w (value_at n p) 0) = rw (e, f) at t in
       let word : x ≡ get_or w (value_at n p) 0 = cc in
       found_member n (get_or w count_at 0) 0 w (record { proposer = p; value = x }) i.index (omega arith) (omega (arith, i.below)) (rw (i.who, word))
 

@@ -4,7 +4,7 @@ use native.Mathlib.Omega.{arith}
 use mathlib.Core.Path.{◌≡◌, refl, ap}
 use mathlib.Core.List.{List}
 use mathlib.Core.Bool.{Bool, true, false, cond, ◌||◌}
-use mathlib.Core.Option.{Option, none, some}
+use Rattle.std.specs.Prelude.{Option, None, Some}
 use lib.ListN.{set}
 use lib.Dec.{ltb}
 use borrow.Author.Tests.{eq-eqb, ne_eqb}
@@ -31,7 +31,7 @@ use Rattle.proposal.specs.Outcomes.{verdict, left}
 use Rattle.subset.specs.Outcomes.{output_of, stored_as, passed, passing_verdict, left_passed, then_output, message_at}
 
 -- the ways of an `if let Outcome::Value(value) =` and of a `let Passing::Done = x else` that are not taken
-pub no_output : (x : Outcome) → ((v : ℕ) → x ≡ Value v → ⊥) → output_of x ≡ none
+pub no_output : (x : Outcome) → ((v : ℕ) → x ≡ Value v → ⊥) → output_of x ≡ None
 no_output Nothing h = refl
 no_output (Value v) h = absurd (h v refl)
 no_output Refused h = refl
@@ -62,8 +62,8 @@ module _ (net : NetworkInfo) (error : ℕ) where
       f = leaves_inside put (left m q words) o r e
 
       go : (x : Outcome) → m.outcome ≡ x → left_passed (stored_as net.num_nodes w p m) (passed m) q words ≡ leaves o (onward (inside put r) k)
-      go Nothing n = rw n (onward_go d o (inside put r) k f none (ap verdict n))
-      go (Value v) n = rw n (onward_go d o (inside put r) k f (some v) (ap verdict n))
+      go Nothing n = rw n (onward_go d o (inside put r) k f None (ap verdict n))
+      go (Value v) n = rw n (onward_go d o (inside put r) k f (Some v) (ap verdict n))
       go Refused n = rw n (onward_refused d o (inside put r) k f (ap verdict n))
       go (Failed c) n = rw n (onward_failed d o (inside put r) k f c (ap verdict n))
 

@@ -4,7 +4,7 @@ use mathlib.Core.Path.{◌≡◌, refl, sym, ap, ◌∙◌}
 use mathlib.Core.Logic.{◌≢◌, ◌⊎◌, inl, inr}
 use mathlib.Core.List.{List}
 use mathlib.Core.Bool.{Bool, true, false, cond, ◌&&◌, ◌||◌, not, false≢true}
-use mathlib.Core.Option.{Option, none, some}
+use Rattle.std.specs.Prelude.{Option, None, Some}
 use native.Mathlib.Omega.{arith}
 use lib.ListN.{get_or, set, length-set}
 use lib.Seq.{get_or-set_same, get_or-set_other}
@@ -61,14 +61,14 @@ module _ (old : ℕ → Bool) where
   opened_went : (n p : ℕ) (v d : ℕ → Option ℕ) (ws : List Rec) (o : Option ℕ) (s : ProposalState) (r : List Rec) → Went n p (v p) (d p) ws o s r → Opened v d ws r
   unfolding is_there is_part
   opened_went n p v d ws o s r t = record {
-    came = λ q. cond (eqb p q) (t.took of_value) none;
+    came = λ q. cond (eqb p q) (t.took of_value) None;
     value = λ q. t.first of_value (low_no_part 3 4 (omega arith)) q;
     one = λ q. t.asking 6 refl q ∙ ap (λ x. x || is_asked 6 q r) (votes1 q (eqb p q) refl);
-    broadcast = λ k q e a. by (λ i. (v i ≡ none) × (d i ≢ some 0)) q (t.asks k) (is_asked k q r) (eqb p q) refl (or_cases (t.asks k && eqb p q) (is_asked k q r) (sym (t.asking k (no_part of_value (low_no_part 3 4 (omega arith)) k e) q) ∙ a)) (t.broadcast k e);
-    agreement = λ q a. by (λ i. d i ≡ none) q (t.asks 5) (is_asked 5 q r) (eqb p q) refl (or_cases (t.asks 5 && eqb p q) (is_asked 5 q r) (sym (t.asking 5 refl q) ∙ a)) t.agreement;
+    broadcast = λ k q e a. by (λ i. (v i ≡ None) × (d i ≢ Some 0)) q (t.asks k) (is_asked k q r) (eqb p q) refl (or_cases (t.asks k && eqb p q) (is_asked k q r) (sym (t.asking k (no_part of_value (low_no_part 3 4 (omega arith)) k e) q) ∙ a)) (t.broadcast k e);
+    agreement = λ q a. by (λ i. d i ≡ None) q (t.asks 5) (is_asked 5 q r) (eqb p q) refl (or_cases (t.asks 5 && eqb p q) (is_asked 5 q r) (sym (t.asking 5 refl q) ∙ a)) t.agreement;
   }
     where
-      votes1 : (q : ℕ) (y : Bool) → eqb p q ≡ y → t.asks 6 && y ≡ (is_there (cond y (t.took of_value) none) && not (is_there (d q)))
+      votes1 : (q : ℕ) (y : Bool) → eqb p q ≡ y → t.asks 6 && y ≡ (is_there (cond y (t.took of_value) None) && not (is_there (d q)))
       votes1 q true y = rw (← eqb-true p q y, and_yes (t.asks 6)) t.six
       votes1 q false y = and_no (t.asks 6)
 
@@ -78,7 +78,7 @@ module _ (old : ℕ → Bool) where
       by P q x z y e (inr b) f = inr b
 
   begun_went : (n p : ℕ) (v d : ℕ → Option ℕ) (w : List ℕ) (ws : List Rec) (o : Option ℕ) (s : ProposalState) (r : List Rec)
-      → Held old n w v d → output_of (v p) (d p) ≡ none → Went n p (v p) (d p) ws o s r → Begun n v d w ws (contributed n (store_proposal n w p s) p o) r
+      → Held old n w v d → output_of (v p) (d p) ≡ None → Went n p (v p) (d p) ws o s r → Begun n v d w ws (contributed n (store_proposal n w p s) p o) r
   unfolding or_else is_part
   begun_went n p v d w ws o s r h e t =
       let v₁ = more v p (t.took of_value) in
@@ -101,15 +101,15 @@ module _ (old : ℕ → Bool) where
         };
         early = λ q.
             ap (or_else (d q)) (t.first (within 5 6) (low_no_part 5 6 (omega arith)) q)
-            ∙ ap (λ x. or_else (d q) (or_else (cond (eqb p q) x none) (first_taken (within 5 6) q r))) t.early
+            ∙ ap (λ x. or_else (d q) (or_else (cond (eqb p q) x None) (first_taken (within 5 6) q r))) t.early
             ∙ link_more d p q (t.took of_decision) (first_taken (within 5 6) q r);
         asks = opened_went n p v d ws o s r t;
         zero = λ q. t.asking 7 refl q ∙ rw t.seven;
       }
 
-  undecided_silent : (v : Option ℕ) → output_of v none ≡ none
-  undecided_silent none = refl
-  undecided_silent (some v) = refl
+  undecided_silent : (v : Option ℕ) → output_of v None ≡ None
+  undecided_silent None = refl
+  undecided_silent (Some v) = refl
 
   -- ONE VOTE 0, asked for where p is undecided
   record One (n p : ℕ) (v d : ℕ → Option ℕ) (w : List ℕ) (ws : List Rec) (w' : List ℕ) (r : List Rec) : Type 0 where
@@ -123,7 +123,7 @@ module _ (old : ℕ → Bool) where
     asks : (q : ℕ) → is_asked 7 q ws ≡ ((eqb p q && not (is_there (d p))) || is_asked 7 q r)
 
   one_agreed : (n p : ℕ) (v d : ℕ → Option ℕ) (w : List ℕ) (ws : List Rec) (o : Option ℕ) (s : ProposalState) (r : List Rec)
-      → Held old n w v d → d p ≡ none → Agreed n 7 p (v p) ws o s r → One n p v d w ws (contributed n (store_proposal n w p s) p o) r
+      → Held old n w v d → d p ≡ None → Agreed n 7 p (v p) ws o s r → One n p v d w ws (contributed n (store_proposal n w p s) p o) r
   unfolding or_else is_there is_part
   one_agreed n p v d w ws o s r h e a =
       let d₁ = more d p a.answer in
@@ -200,27 +200,27 @@ module _ (old : ℕ → Bool) where
           b.among q (omega arith) (omega arith) ∙ ap (λ o. not (is_there o)) (a.others q (λ e. ne (sym e)))
 
   -- a proposal that asks has not been output
-  broadcast_silent : (v d : Option ℕ) → asks_broadcast (state_of v d) ≡ true → output_of v d ≡ none
+  broadcast_silent : (v d : Option ℕ) → asks_broadcast (state_of v d) ≡ true → output_of v d ≡ None
   unfolding asks_broadcast
-  broadcast_silent none d e = refl
-  broadcast_silent (some v) none e = refl
-  broadcast_silent (some v) (some zero) e = refl
-  broadcast_silent (some v) (some (suc d)) e = absurd (false≢true e)
+  broadcast_silent None d e = refl
+  broadcast_silent (Some v) None e = refl
+  broadcast_silent (Some v) (Some zero) e = refl
+  broadcast_silent (Some v) (Some (suc d)) e = absurd (false≢true e)
 
-  agreement_undecided : (v d : Option ℕ) → asks_agreement (state_of v d) ≡ true → d ≡ none
+  agreement_undecided : (v d : Option ℕ) → asks_agreement (state_of v d) ≡ true → d ≡ None
   unfolding asks_agreement
-  agreement_undecided none none e = refl
-  agreement_undecided (some v) none e = refl
-  agreement_undecided none (some zero) e = absurd (false≢true e)
-  agreement_undecided (some v) (some zero) e = absurd (false≢true e)
-  agreement_undecided none (some (suc d)) e = absurd (false≢true e)
-  agreement_undecided (some v) (some (suc d)) e = absurd (false≢true e)
+  agreement_undecided None None e = refl
+  agreement_undecided (Some v) None e = refl
+  agreement_undecided None (Some zero) e = absurd (false≢true e)
+  agreement_undecided (Some v) (Some zero) e = absurd (false≢true e)
+  agreement_undecided None (Some (suc d)) e = absurd (false≢true e)
+  agreement_undecided (Some v) (Some (suc d)) e = absurd (false≢true e)
 
   decided_there : (v d : Option ℕ) → asks_agreement (state_of v d) ≡ false → is_there d ≡ true
   unfolding asks_agreement is_there
-  decided_there none none e = absurd (false≢true (sym e))
-  decided_there (some v) none e = absurd (false≢true (sym e))
-  decided_there v (some d) e = refl
+  decided_there None None e = absurd (false≢true (sym e))
+  decided_there (Some v) None e = absurd (false≢true (sym e))
+  decided_there v (Some d) e = refl
 
   module _ (net : NetworkInfo) (error : ℕ) where
     abbrev n : ℕ
@@ -262,9 +262,9 @@ module _ (old : ℕ → Bool) where
           go false a = begun_still n v d w u.rest h g
 
       -- where p is undecided the agreement is asked
-      agreement_load : p < n → asks_agreement (load_proposal n w p) ≡ true → (d p ≡ none) × (load_proposal n w p ≡ state_of (v p) none)
+      agreement_load : p < n → asks_agreement (load_proposal n w p) ≡ true → (d p ≡ None) × (load_proposal n w p ≡ state_of (v p) None)
       agreement_load l a =
-          let e : d p ≡ none = agreement_undecided (v p) (d p) (rw (h.load p l) at a) in
+          let e : d p ≡ None = agreement_undecided (v p) (d p) (rw (h.load p l) at a) in
           (e, h.load p l ∙ ap (λ x. state_of (v p) x) e)
 
       pub agreement_at_lem : Afterwards (agreement_at net error 5 p w u) (λ _ w' z. Begun n v d w u.rest w' z.rest)
@@ -275,8 +275,8 @@ module _ (old : ℕ → Bool) where
           asking a true x =
               let l = agreement_load (ltb-true p n x) a in
               rw l.1
-              (at_ok p w (answer_agreement error p 5 (state_of (v p) none) u) (λ w' z. Begun n v d w u.rest w' z.rest)
-              (after_map (answer_agreement error p 5 (state_of (v p) none) u) _ _ (agreement_ok n error p 5 kind5 (v p) u g)
+              (at_ok p w (answer_agreement error p 5 (state_of (v p) None) u) (λ w' z. Begun n v d w u.rest w' z.rest)
+              (after_map (answer_agreement error p 5 (state_of (v p) None) u) _ _ (agreement_ok n error p 5 kind5 (v p) u g)
               (λ o s z t. begun_went n p v d w u.rest o s z.rest h (rw l.0 (undecided_silent (v p))) (rw l.0 (went_agreed n p (v p) u.rest o s z.rest t)))))
           asking a false x = at_ok p w (answer_agreement error p 5 (load_proposal n w p) u) _ (agreement_far 5 kind5 (ltb-false p n x) (load_proposal n w p) a _)
 
@@ -294,8 +294,8 @@ module _ (old : ℕ → Bool) where
           go true a =
               let l = agreement_load inside a in
               rw l.1
-              (at_ok p w (answer_agreement error p 7 (state_of (v p) none) u) (λ w' z. One n p v d w u.rest w' z.rest)
-              (after_map (answer_agreement error p 7 (state_of (v p) none) u) _ _ (agreement_ok n error p 7 kind7 (v p) u g)
+              (at_ok p w (answer_agreement error p 7 (state_of (v p) None) u) (λ w' z. One n p v d w u.rest w' z.rest)
+              (after_map (answer_agreement error p 7 (state_of (v p) None) u) _ _ (agreement_ok n error p 7 kind7 (v p) u g)
               (λ o s z t. one_agreed n p v d w u.rest o s z.rest h l.0 t)))
           go false a = record {
             d' = d;

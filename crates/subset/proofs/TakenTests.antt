@@ -3,7 +3,7 @@ use Prim.Native.Nat.{ℕ, zero, suc, ◌+◌, ◌≤◌, ◌<◌}
 use mathlib.Core.Path.{◌≡◌, refl, sym, ◌∙◌}
 use mathlib.Core.List.{List}
 use mathlib.Core.Bool.{Bool, true, false, cond, ◌&&◌, ◌||◌, not, false≢true}
-use mathlib.Core.Option.{Option, none, some}
+use Rattle.std.specs.Prelude.{Option, None, Some}
 use native.Mathlib.Omega.{arith}
 use lib.Dec.{eqb, leb}
 use borrow.Author.Tests.{eqb-true, eqb-false, eq-eqb, ne_eqb, leb-true, le-leb}
@@ -23,7 +23,7 @@ use Rattle.subset.proofs.Invariant.{Held}
 
 -- WHAT GROWS: what is there stays as it is
 abbrev pub Grown : Option ℕ → Option ℕ → Type 0
-Grown a b = (x : ℕ) → a ≡ some x → b ≡ some x
+Grown a b = (x : ℕ) → a ≡ Some x → b ≡ Some x
 
 pub grown_or : (a t : Option ℕ) → Grown a (or_else a t)
 unfolding or_else
@@ -50,11 +50,11 @@ grown_more g p t q = go (eqb p q) refl
     go true e = rw (eqb-true p q e) (grown_or (g q) t)
     go false e = λ x h. h
 
-pub link_more : (g : ℕ → Option ℕ) (p q : ℕ) (t y : Option ℕ) → or_else (g q) (or_else (cond (eqb p q) t none) y) ≡ or_else (more g p t q) y
+pub link_more : (g : ℕ → Option ℕ) (p q : ℕ) (t y : Option ℕ) → or_else (g q) (or_else (cond (eqb p q) t None) y) ≡ or_else (more g p t q) y
 unfolding or_else
 link_more g p q t y = go (eqb p q) refl
   where
-    go : (x : Bool) → eqb p q ≡ x → or_else (g q) (or_else (cond x t none) y) ≡ or_else (cond x (or_else (g p) t) (g q)) y
+    go : (x : Bool) → eqb p q ≡ x → or_else (g q) (or_else (cond x t None) y) ≡ or_else (cond x (or_else (g p) t) (g q)) y
     go true e = rw (eqb-true p q e) (sym (or_else_assoc (g q) t y))
     go false e = refl
 
@@ -94,14 +94,14 @@ or_left false y e = absurd (false≢true e)
 
 cell_grows : (v d v' d' : Option ℕ) → Grown v v' → Grown d d' → cell v d ≡ true → cell v' d' ≡ true
 unfolding is_there
-cell_grows v none v' d' f g e = absurd (false≢true e)
-cell_grows none (some y) v' d' f g e = rw (g y refl) (or_left (not (is_true (some y))) (is_there v') (or_false (not (is_true (some y))) e))
-cell_grows (some x) (some y) v' d' f g e = rw (g y refl, f x refl) (or_true (not (is_true (some y))))
+cell_grows v None v' d' f g e = absurd (false≢true e)
+cell_grows None (Some y) v' d' f g e = rw (g y refl) (or_left (not (is_true (Some y))) (is_there v') (or_false (not (is_true (Some y))) e))
+cell_grows (Some x) (Some y) v' d' f g e = rw (g y refl, f x refl) (or_true (not (is_true (Some y))))
 
 true_grows : (d d' : Option ℕ) → Grown d d' → is_true d ≡ true → is_true d' ≡ true
 unfolding is_true
-true_grows none d' g e = absurd (false≢true e)
-true_grows (some y) d' g e = rw (g y refl) e
+true_grows None d' g e = absurd (false≢true e)
+true_grows (Some y) d' g e = rw (g y refl) e
 
 both : (x y : Bool) → x ≡ true → y ≡ true → x && y ≡ true
 both x y a b = rw a b
@@ -153,23 +153,23 @@ ones_same d d' h (suc m) i = rw (h i, ones_same d d' h m (i + 1))
 -- WHAT THE WORDS SAY
 accepted_is : (v d : Option ℕ) → Bit d → accepted (state_of v d) ≡ is_true d
 unfolding accepted is_true Bit
-accepted_is none none b = refl
-accepted_is (some v) none b = refl
-accepted_is none (some zero) b = refl
-accepted_is (some v) (some zero) b = refl
-accepted_is none (some (suc zero)) b = refl
-accepted_is (some v) (some (suc zero)) b = refl
-accepted_is v (some (suc (suc d))) b = absurd (omega arith)
+accepted_is None None b = refl
+accepted_is (Some v) None b = refl
+accepted_is None (Some zero) b = refl
+accepted_is (Some v) (Some zero) b = refl
+accepted_is None (Some (suc zero)) b = refl
+accepted_is (Some v) (Some (suc zero)) b = refl
+accepted_is v (Some (suc (suc d))) b = absurd (omega arith)
 
 complete_is : (v d : Option ℕ) → Bit d → complete (state_of v d) ≡ cell v d
 unfolding complete is_true is_there Bit
-complete_is none none b = refl
-complete_is (some v) none b = refl
-complete_is none (some zero) b = refl
-complete_is (some v) (some zero) b = refl
-complete_is none (some (suc zero)) b = refl
-complete_is (some v) (some (suc zero)) b = refl
-complete_is v (some (suc (suc d))) b = absurd (omega arith)
+complete_is None None b = refl
+complete_is (Some v) None b = refl
+complete_is None (Some zero) b = refl
+complete_is (Some v) (Some zero) b = refl
+complete_is None (Some (suc zero)) b = refl
+complete_is (Some v) (Some (suc zero)) b = refl
+complete_is v (Some (suc (suc d))) b = absurd (omega arith)
 
 module _ (old : ℕ → Bool) (n : ℕ) (w : List ℕ) (v d : ℕ → Option ℕ) (h : Held old n w v d) where
   pub accepted_ones : (m i : ℕ) → i + m ≤ n → count_from (record_length n) accepted m i w ≡ ones_from d m i

@@ -4,7 +4,7 @@ use mathlib.Core.Path.{◌≡◌, refl, sym, ap, ◌∙◌}
 use mathlib.Core.Logic.{◌≢◌, ◌⊎◌, inl, inr}
 use mathlib.Core.List.{List, []}
 use mathlib.Core.Bool.{Bool, true, false, ◌&&◌, ◌||◌, not, false≢true}
-use mathlib.Core.Option.{Option, none, some}
+use Rattle.std.specs.Prelude.{Option, None, Some}
 use native.Mathlib.Omega.{arith}
 use lib.Dec.{eqb, leb}
 use borrow.Author.Tests.{leb-true, le-leb}
@@ -109,8 +109,8 @@ pub record Opened (v d : ℕ → Option ℕ) (ws r : List Rec) : Type 0 where
   pub came : ℕ → Option ℕ
   pub value : (q : ℕ) → first_taken of_value q ws ≡ or_else (came q) (first_taken of_value q r)
   pub one : (q : ℕ) → is_asked 6 q ws ≡ ((is_there (came q) && not (is_there (d q))) || is_asked 6 q r)
-  pub broadcast : (k q : ℕ) → of_value k ≡ true → is_asked k q ws ≡ true → ((v q ≡ none) × (d q ≢ some 0)) ⊎ (is_asked k q r ≡ true)
-  pub agreement : (q : ℕ) → is_asked 5 q ws ≡ true → (d q ≡ none) ⊎ (is_asked 5 q r ≡ true)
+  pub broadcast : (k q : ℕ) → of_value k ≡ true → is_asked k q ws ≡ true → ((v q ≡ None) × (d q ≢ Some 0)) ⊎ (is_asked k q r ≡ true)
+  pub agreement : (q : ℕ) → is_asked 5 q ws ≡ true → (d q ≡ None) ⊎ (is_asked 5 q r ≡ true)
 
 -- A CALL: `speaks` tells whether it comes to the subset
 pub record Voted (net : NetworkInfo) (speaks : Bool) (v d : ℕ → Option ℕ) (ws r : List Rec) : Type 0 where
@@ -124,7 +124,7 @@ pub record Voted (net : NetworkInfo) (speaks : Bool) (v d : ℕ → Option ℕ) 
 module _ (v d : ℕ → Option ℕ) where
   pub opened_none : (ws : List Rec) → Opened v d ws ws
   unfolding or_else is_there
-  opened_none ws = record { came = λ q. none; value = λ q. refl; one = λ q. refl; broadcast = λ k q e a. inr a; agreement = λ q a. inr a }
+  opened_none ws = record { came = λ q. None; value = λ q. refl; one = λ q. refl; broadcast = λ k q e a. inr a; agreement = λ q a. inr a }
 
   pub opened_after : {ws u r : List Rec} → Opened v d ws u → Still u r → Opened v d ws r
   opened_after a s = record {
@@ -196,8 +196,8 @@ pub record Whole (net : NetworkInfo) (speaks : Bool) (v d : ℕ → Option ℕ) 
   pub zero : (q : ℕ) → q < net.num_nodes
       → is_asked 7 q ws
       ≡ (speaks && (eqb (ones_from (λ p. or_else (d p) (first_taken (within 5 6) p ws)) net.num_nodes 0) (num_correct net) && not (is_there (or_else (d q) (first_taken (within 5 6) q ws)))))
-  pub broadcast : (k q : ℕ) → of_value k ≡ true → is_asked k q ws ≡ true → (v q ≡ none) × (d q ≢ some 0)
-  pub agreement : (q : ℕ) → is_asked 5 q ws ≡ true → d q ≡ none
+  pub broadcast : (k q : ℕ) → of_value k ≡ true → is_asked k q ws ≡ true → (v q ≡ None) × (d q ≢ Some 0)
+  pub agreement : (q : ℕ) → is_asked 5 q ws ≡ true → d q ≡ None
 
 pub voted_whole : (net : NetworkInfo) (speaks : Bool) (v d : ℕ → Option ℕ) (ws : List Rec) → Voted net speaks v d ws [] → Whole net speaks v d ws
 unfolding first_taken is_asked or_else

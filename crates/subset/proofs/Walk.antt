@@ -3,7 +3,7 @@ use Prim.Native.Nat.{ℕ, zero, suc, ◌+◌, ◌≤◌, ◌<◌}
 use mathlib.Core.Path.{refl}
 use mathlib.Core.List.{List}
 use mathlib.Core.Bool.{◌||◌}
-use mathlib.Core.Option.{Option, none}
+use Rattle.std.specs.Prelude.{Option, None}
 use native.Mathlib.Omega.{arith}
 use lib.ListN.{set}
 use lib.Dec.{eqb, ltb}
@@ -26,9 +26,9 @@ pub record Rules (T : Terms) (P : Logic T ProposalState) (L : Logic T (List ℕ)
   pub moves : Moves T P
   pub index : (p : ℕ) → p < N → T.Index p
   pub stored : (p n : ℕ) (w : List ℕ) (t : Tape) (r : Run ProposalState (Option ℕ)) → T.Index p
-      → P.Good _ contribution (hand none n) (load_proposal N w p) t r → L.Good _ contribution (hand none n) w t (inside (store_proposal N w p) r)
-  pub added : (p : ℕ) (w : List ℕ) (o : Option ℕ) → T.Index p → L.Step o w none (contributed N w p o)
-  pub decided : (w : List ℕ) → L.Step none w none (set w decided_at 1)
+      → P.Good _ contribution (hand None n) (load_proposal N w p) t r → L.Good _ contribution (hand None n) w t (inside (store_proposal N w p) r)
+  pub added : (p : ℕ) (w : List ℕ) (o : Option ℕ) → T.Index p → L.Step o w None (contributed N w p o)
+  pub decided : (w : List ℕ) → L.Step None w None (set w decided_at 1)
 
 -- of a property that says nothing of the state
 pub any_rules : {T : Terms} {L : (S : Type 0) → Logic T S} → Stateless T L → Permits T → (n : ℕ) → Rules T (L ProposalState) (L (List ℕ)) n
@@ -47,10 +47,10 @@ module _ (T : Terms) (P : Logic T ProposalState) (L : Logic T (List ℕ)) (net :
 
   -- an operation on an epoch's words whose runs are so, with n entries allowed at first
   abbrev Does : {A : Type 0} → (List ℕ → Tape → Run (List ℕ) A) → Type 0
-  Does {A} k = (n : ℕ) (w : List ℕ) (t : Tape) → L.Good A nothing (hand none n) w t (k w t)
+  Does {A} k = (n : ℕ) (w : List ℕ) (t : Tape) → L.Good A nothing (hand None n) w t (k w t)
 
-  at_keeps : (p n : ℕ) (w : List ℕ) (t : Tape) (r : Run ProposalState (Option ℕ)) → T.Index p → P.Good _ contribution (hand none n) (load_proposal N w p) t r
-      → L.Good _ nothing (hand none n) w t (at_proposal net error p w r)
+  at_keeps : (p n : ℕ) (w : List ℕ) (t : Tape) (r : Run ProposalState (Option ℕ)) → T.Index p → P.Good _ contribution (hand None n) (load_proposal N w p) t r
+      → L.Good _ nothing (hand None n) w t (at_proposal net error p w r)
   unfolding at_proposal
   at_keeps p n w t r i h =
       next L (R.stored p n w t r i h) (λ o w q. move L (R.added p w o i) (here L tt _ q))

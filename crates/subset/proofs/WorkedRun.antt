@@ -3,7 +3,7 @@ use Prim.Native.Nat.{ℕ}
 use mathlib.Core.Path.{◌≡◌, refl}
 use mathlib.Core.List.{List, [], ◌∷◌, ◌++◌}
 use mathlib.Core.Bool.{true, false}
-use mathlib.Core.Option.{Option, none, some}
+use Rattle.std.specs.Prelude.{Option, None, Some}
 use native.Mathlib.Omega.{arith}
 use lib.ListN.{get_or}
 use Rattle.network.specs.declared.network_info.NetworkInfo.{NetworkInfo}
@@ -38,10 +38,10 @@ contribution p v = record { proposer = p; value = v }
 
 -- whether it is done, and what was handed up
 abbrev seen : Option (List ℕ) → Option (ℕ × List Contribution)
-seen none = none
-seen (some w) = some (get_or w decided_at 0, contributions 4 w)
+seen None = None
+seen (Some w) = Some (get_or w decided_at 0, contributions 4 w)
 
-pub four_run : seen (words_after four (new_epoch 4) (earlier ++ (third ∷ []))) ≡ some (1, contribution 0 7 ∷ contribution 1 8 ∷ contribution 2 9 ∷ [])
+pub four_run : seen (words_after four (new_epoch 4) (earlier ++ (third ∷ []))) ≡ Some (1, contribution 0 7 ∷ contribution 1 8 ∷ contribution 2 9 ∷ [])
 unfolding opened run_of words_as then_words words_after contributions_from
 four_run = refl
 
@@ -52,16 +52,16 @@ unfolding opened taken_by settled_from is_over
 four_over = (refl, refl)
 
 pub four_network : Network four
-four_network = record { some = omega arith; sixteen = omega arith; faulty = omega arith; own = omega arith }
+four_network = record { Some = omega arith; sixteen = omega arith; faulty = omega arith; own = omega arith }
 
 pub four_tables : tables_ok 4 (earlier ++ (third ∷ [])) ≡ true
 unfolding opened tables_ok
 four_tables = refl
 
 -- vote 1 for proposer 2 and vote 0 for proposer 3 are asked for, and the rule's tests of them
-pub four_votes : (is_asked 6 2 (answers third) ≡ true) × (first_taken of_value 2 (answers third) ≡ some 9) × (taken_by of_decision earlier 2 ≡ none)
-    × (is_asked 7 3 (answers third) ≡ true) × (ones_from (decided_before7 earlier third) 4 0 ≡ 3) × (decided_before7 earlier third 3 ≡ none)
-    × (is_asked 7 2 (answers third) ≡ false) × (decided_before7 earlier third 2 ≡ some 1)
+pub four_votes : (is_asked 6 2 (answers third) ≡ true) × (first_taken of_value 2 (answers third) ≡ Some 9) × (taken_by of_decision earlier 2 ≡ None)
+    × (is_asked 7 3 (answers third) ≡ true) × (ones_from (decided_before7 earlier third) 4 0 ≡ 3) × (decided_before7 earlier third 3 ≡ None)
+    × (is_asked 7 2 (answers third) ≡ false) × (decided_before7 earlier third 2 ≡ Some 1)
 unfolding opened taken_by
 four_votes = (refl, refl, refl, refl, refl, refl, refl, refl)
 
@@ -88,7 +88,7 @@ silent =
     ∷ with (agreeing 1) nothing
     ∷ []
 
-pub silent_run : seen (words_after four (new_epoch 4) silent) ≡ some (0, contribution 1 8 ∷ [])
+pub silent_run : seen (words_after four (new_epoch 4) silent) ≡ Some (0, contribution 1 8 ∷ [])
 unfolding opened run_of words_as then_words words_after contributions_from
 silent_run = refl
 
@@ -103,11 +103,11 @@ observed =
     ∷ with (agreeing 2) (1 ∷ 0 ∷ 0 ∷ 0 ∷ 2 ∷ 5 ∷ 1 ∷ 2 ∷ 3 ∷ 18 ∷ 0 ∷ 1 ∷ 0 ∷ 7 ∷ 1 ∷ 3 ∷ [])
     ∷ []
 
-pub observer_run : seen (words_after observing (new_epoch 4) (observed ++ (with proposing nothing ∷ []))) ≡ some (0, [])
+pub observer_run : seen (words_after observing (new_epoch 4) (observed ++ (with proposing nothing ∷ []))) ≡ Some (0, [])
 unfolding opened run_of words_as then_words words_after contributions_from
 observer_run = refl
 
 pub observer_votes : (is_asked 7 3 (answers (with proposing nothing)) ≡ false) × (speaks observing proposing ≡ false)
-    × (ones_from (decided_before7 observed (with proposing nothing)) 4 0 ≡ 3) × (decided_before7 observed (with proposing nothing) 3 ≡ none)
+    × (ones_from (decided_before7 observed (with proposing nothing)) 4 0 ≡ 3) × (decided_before7 observed (with proposing nothing) 3 ≡ None)
 unfolding opened taken_by speaks
 observer_votes = (refl, refl, refl, refl)

@@ -1,6 +1,6 @@
 -- What each enum and struct of the subset stands for, and what its functions leave.
 use Rattle.std.specs.Prelude.{ℕ, ◌≤◌, ◌≡◌, List, Bool, true, false, length}
-use Rattle.std.proofs.Math.Option.{Option, none, some}
+use Rattle.std.specs.Prelude.{Option, None, Some}
 use Rattle.network.specs.declared.network_info.NetworkInfo.{NetworkInfo}
 use Rattle.steps.specs.Numbers.{broadcast_message, agreement_message}
 use Rattle.steps.specs.Answers.{Tape}
@@ -27,10 +27,10 @@ pub record EpochWords (n : ℕ) (w : List ℕ) : Type 0 where
 
 -- THE SUBSET. A proposal's step is stored, and its output handed up
 abbrev pub output_of : Outcome → Option ℕ
-output_of Nothing = none
-output_of (Value v) = some v
-output_of Refused = none
-output_of (Failed n) = none
+output_of Nothing = None
+output_of (Value v) = Some v
+output_of Refused = None
+output_of (Failed n) = None
 
 abbrev pub stored_as : ℕ → List ℕ → ℕ → Transition → List ℕ
 stored_as n w p m = contributed n (store_proposal n w p m.state) p (output_of m.outcome)

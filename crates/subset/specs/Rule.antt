@@ -2,7 +2,7 @@
 -- which no call fails. Values and decisions are read off the answers. Proved: `subset_rule` in proofs/Rule.antt.
 use Rattle.std.specs.Prelude.{ℕ, zero, suc, ◌+◌, ◌<◌, ◌≡◌, ◌≢◌, Bool, true, ◌&&◌, ◌||◌, not, get_or, eqb, leb}
 use mathlib.Core.List.{List, [], ◌∷◌, ◌++◌, Memᴰ}
-use Rattle.std.proofs.Math.Option.{Option, none, some}
+use Rattle.std.specs.Prelude.{Option, None, Some}
 use Rattle.network.specs.declared.network_info.NetworkInfo.{NetworkInfo}
 use Rattle.steps.specs.declared.reader.Content.TheVariants.{Broadcast, Agreement}
 use Rattle.steps.specs.Numbers.{agreement_message, propose_true, propose_false, input_subset, handle_subset_message}
@@ -45,7 +45,7 @@ tables_ok n (x ∷ xs) = table_ok n x.table && tables_ok n xs
 
 -- what was taken for proposer p in a run
 unfoldable pub taken_by : (ℕ → Bool) → List SubsetEvent → ℕ → Option ℕ
-taken_by is [] p = none
+taken_by is [] p = None
 taken_by is (x ∷ xs) p = or_else (first_taken is p (answers x)) (taken_by is xs p)
 
 module _ (net : NetworkInfo) where
@@ -56,17 +56,17 @@ module _ (net : NetworkInfo) where
 
   -- the words after a run of calls, each of which reads its whole chain; none where one is refused or fails
   unfoldable pub words_as : Verdict Bool → List Rec → List ℕ → Option (List ℕ)
-  words_as (going done) [] w = some w
-  words_as (going done) (r ∷ rs) w = none
-  words_as refused rs w = none
-  words_as (failed error) rs w = none
+  words_as (going done) [] w = Some w
+  words_as (going done) (r ∷ rs) w = None
+  words_as refused rs w = None
+  words_as (failed error) rs w = None
 
   unfoldable pub then_words : Option (List ℕ) → (List ℕ → Option (List ℕ)) → Option (List ℕ)
-  then_words none k = none
-  then_words (some w) k = k w
+  then_words None k = None
+  then_words (Some w) k = k w
 
   unfoldable pub words_after : List ℕ → List SubsetEvent → Option (List ℕ)
-  words_after w [] = some w
+  words_after w [] = Some w
   words_after w (x ∷ xs) =
       let r = run_of x.call w (tape_of x.table) in
       then_words (words_as r.verdict r.tape.rest r.state) (λ w. words_after w xs)
@@ -105,15 +105,15 @@ pub record RuleAt (net : NetworkInfo) (h : List SubsetEvent) (x : SubsetEvent) (
       → is_asked propose_false p (answers x)
       ≡ (speaks net x.call && (eqb (ones_from (decided_before7 h x) net.num_nodes 0) (num_correct net) && not (is_there (decided_before7 h x p))))
   -- "No outside call is made in HasValue for broadcast, in Accepted for agreement, in Complete at all."
-  pub broadcasts : (k p : ℕ) → of_value k ≡ true → is_asked k p (answers x) ≡ true → (taken_by of_value h p ≡ none) × (taken_by of_decision h p ≢ some 0)
-  pub agrees : (p : ℕ) → is_asked agreement_message p (answers x) ≡ true → taken_by of_decision h p ≡ none
+  pub broadcasts : (k p : ℕ) → of_value k ≡ true → is_asked k p (answers x) ≡ true → (taken_by of_value h p ≡ None) × (taken_by of_decision h p ≢ Some 0)
+  pub agrees : (p : ℕ) → is_asked agreement_message p (answers x) ≡ true → taken_by of_decision h p ≡ None
   -- "when all have decided, at least N−f of them 1, and every value decided 1 is here": then, and only then, it is done
   pub done : eqb (get_or w decided_at 0) 1 ≡ is_over net (taken_by of_value (h ++ (x ∷ []))) (taken_by of_decision (h ++ (x ∷ [])))
   -- "the output is those pairs": handed up are the pairs of a proposer decided 1 and its value
-  pub handed_up : (p v : ℕ) → taken_by of_decision (h ++ (x ∷ [])) p ≡ some 1 → taken_by of_value (h ++ (x ∷ [])) p ≡ some v → p < net.num_nodes
+  pub handed_up : (p v : ℕ) → taken_by of_decision (h ++ (x ∷ [])) p ≡ Some 1 → taken_by of_value (h ++ (x ∷ [])) p ≡ Some v → p < net.num_nodes
       → Memᴰ (record { proposer = p; value = v }) (contributions net.num_nodes w)
   pub no_others : (c : Contribution) → Memᴰ c (contributions net.num_nodes w)
-      → (c.proposer < net.num_nodes) × (taken_by of_decision (h ++ (x ∷ [])) c.proposer ≡ some 1) × (taken_by of_value (h ++ (x ∷ [])) c.proposer ≡ some c.value)
+      → (c.proposer < net.num_nodes) × (taken_by of_decision (h ++ (x ∷ [])) c.proposer ≡ Some 1) × (taken_by of_value (h ++ (x ∷ [])) c.proposer ≡ Some c.value)
   -- nobody is handed up twice
   pub handed_once : (i j : ℕ) → i < count_of w → j < count_of w → contributor net.num_nodes w i ≡ contributor net.num_nodes w j → i ≡ j
 
@@ -121,4 +121,4 @@ abbrev pub SubsetRule : Type 0
 SubsetRule =
     (net : NetworkInfo) (h : List SubsetEvent) (x : SubsetEvent) (w : List ℕ) → Network net
     → tables_ok net.num_nodes (h ++ (x ∷ [])) ≡ true
-    → words_after net (new_epoch net.num_nodes) (h ++ (x ∷ [])) ≡ some w → RuleAt net h x w
+    → words_after net (new_epoch net.num_nodes) (h ++ (x ∷ [])) ≡ Some w → RuleAt net h x w

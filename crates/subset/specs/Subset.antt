@@ -1,6 +1,6 @@
 -- The subset over the words of one epoch, after subset.rs. A run goes on with true where the subset is `Done`.
 use Rattle.std.specs.Prelude.{ℕ, zero, suc, ◌+◌, List, Bool, true, false, cond, ◌&&◌, ◌||◌, set, eqb, ltb}
-use Rattle.std.proofs.Math.Option.{Option, none, some}
+use Rattle.std.specs.Prelude.{Option, None, Some}
 use Rattle.network.specs.declared.network_info.NetworkInfo.{NetworkInfo}
 use Rattle.steps.specs.declared.reader.Content.{Content}
 use Rattle.steps.specs.declared.reader.Content.TheVariants.{Broadcast, Agreement}
@@ -37,8 +37,8 @@ all_complete n w = complete_from (record_length n) n 0 w
 
 -- the contribution of proposer p, if there is one, joins the list
 unfoldable pub contributed : ℕ → List ℕ → ℕ → Option ℕ → List ℕ
-contributed n w p none = w
-contributed n w p (some value) = add_contribution n w p value
+contributed n w p None = w
+contributed n w p (Some value) = add_contribution n w p value
 
 module _ (net : NetworkInfo) (error : ℕ) where
   -- the proposal of p moves as the run says, and its output is handed up

@@ -2,10 +2,10 @@
 use Rattle.steps.specs.Parts.{last_of}
 use Rattle.steps.proofs.reader.last_of.Goals as goal
 
-pub returns-in-Missing : goal.returns-in-Missing
+pub returns-in-None : goal.returns-in-None
 unfolding last_of
-returns-in-Missing c = rw c.in-Missing.is
+returns-in-None c = rw c.in-None.is
 
-pub returns-in-Value : goal.returns-in-Value
+pub returns-in-Some : goal.returns-in-Some
 unfolding last_of
-returns-in-Value c = rw c.in-Value.is
+returns-in-Some c = rw c.in-Some.is

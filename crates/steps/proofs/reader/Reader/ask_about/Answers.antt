@@ -1,0 +1,13 @@
+-- `ask_about` meets its contract, by what `peek` found. Assumes nothing.
+use mathlib.Core.Path.{sym, ◌∙◌}
+use Rattle.steps.specs.Answers.{ask_about}
+use Rattle.steps.proofs.ReaderCode.{asked_none, asked_taken}
+use Rattle.steps.proofs.reader.Reader.ask_about.Goals as goal
+
+pub returns : goal.returns
+unfolding ask_about
+returns c = rw (sym c.from.ensures) (c.take.ensures ∙ asked_taken _ c.args.self.now c.in-Some.found (sym c.peek.ensures ∙ c.in-Some.is))
+
+pub returns-in_default : goal.returns-in_default
+unfolding ask_about
+returns-in_default c = asked_none _ c.args.self.now (sym c.peek.ensures ∙ c.in_default.is)

@@ -1,0 +1,7 @@
+-- `fault` meets its contract: the chain and the words are what `put` left. Assumes nothing.
+use mathlib.Core.Path.{sym}
+use Rattle.steps.proofs.ChainLaws.{fault_put}
+use Rattle.steps.proofs.step.Writer.fault.Goals as goal
+
+pub returns-clause-step : goal.returns-clause-step
+returns-clause-step c = rw (sym c.from.ensures) (fault_put c.args.self.now.step c.args.self.now.words.now c.put-self.new.words c.put-self.result _ c.args.a c.args.b c.put-self.ensures)
