@@ -5,20 +5,24 @@ use mathlib.Core.List.{List, [], ◌∷◌}
 use mathlib.Core.Bool.{Bool, true, false, true≢false}
 use lib.ListN.{length, get_or, drop}
 use native.Mathlib.Omega.{arith}
-use Rattle.std.specs.Prelude.{Option, Some, None, Result, Ok, Err, is_some, not, ◌<◌}
+use Rattle.std.specs.Prelude.{Option, Some, None, Ok, Err, is_some, not, ◌<◌}
 use Rattle.steps.specs.declared.reader.Record.{Record}
 use Rattle.steps.specs.declared.kinds.Stop.{Stop}
-use Rattle.steps.specs.declared.kinds.Stop.TheVariants.{NotNext}
-use Rattle.steps.specs.Answers.{Tape, Rec, tape, link, rec_at, on_record, chain, tape_at, first_record, is_end, ask_for}
+use Rattle.steps.specs.declared.kinds.Stop.TheVariants.{NotNext, Failed}
+use Rattle.steps.specs.Answers.{Tape, Rec, tape, link, rec_at, on_record, chain, first_record, Asked, is_end, ask_for, verdict_of}
+use Rattle.steps.specs.Verdicts.{Verdict, going, refused, failed}
+use Rattle.steps.specs.Kinds.{verdict_of as verdict_in, failure_number}
+use Rattle.steps.specs.declared.reader.Answer.{Answer}
+use Rattle.steps.specs.declared.reader.Answer.TheVariants.{Got, Refused}
 use Rattle.steps.specs.Told.{Told, told, taken, heard_in}
 use Rattle.steps.specs.declared.reader.Content.{Content}
 use Rattle.steps.specs.declared.step.Writer.{Writer}
 use Rattle.steps.specs.Steps.{Out, put_all}
-use Rattle.steps.specs.Runs.{Run, leaves}
+use Rattle.steps.specs.Runs.{Run, ends, onward, heard, heard_as, leaves}
 use Rattle.steps.specs.Written.{out_of, left}
 use Rattle.steps.specs.Parts.{is_part, part_entries, last_output, parts_from, told_by}
 use Rattle.steps.proofs.Parts.{after_entries, parts_on, parts_off}
-use Rattle.steps.proofs.RunLaws.{leaves_before}
+use Rattle.steps.proofs.RunLaws.{leaves_before, onward_go, onward_refused, onward_failed}
 use Rattle.steps.proofs.ChainLaws.{chain_on, chain_off}
 
 -- a record as the chain has it
@@ -97,3 +101,52 @@ module _ (content : Content) (proposer : ℕ) (output : Option ℕ) (p : Tape) w
         let on : parts_from content proposer output p.place p.rest ≡ after_entries (part_entries content proposer r.kind r.a r.b) (parts_from content proposer (last_output output r.kind r.b) r.next (drop 1 p.rest)) =
         ap (parts_from content proposer output p.place) (first_of_chain p.rest r e) ∙ parts_on content proposer output p.place (rec_of r) (drop 1 p.rest) h in
         rw (q, m) (sym (ap (λ told. leaves o (told_by tt told)) on ∙ leaves_before o (part_entries content proposer r.kind r.a r.b) (parts_of content proposer (last_output output r.kind r.b) (tape r.next (drop 1 p.rest)))))
+
+-- what follows an answer, and what ends where there is none
+words_of : Verdict (ℕ × ℕ) → ℕ × ℕ
+words_of (going x) = x
+words_of refused = (0, 0)
+words_of (failed n) = (0, 0)
+
+goes_on : {A : Type 0} → Verdict A → Bool
+goes_on (going x) = true
+goes_on refused = false
+goes_on (failed n) = false
+
+fails : {A : Type 0} → Verdict A → Bool
+fails (going x) = false
+fails refused = false
+fails (failed n) = true
+
+module _ {S A : Type 0} (q : Asked) (s : S) (k : ℕ → ℕ → Tape → Run S A) (p : Tape) where
+  pub heard_ok : (x : ℕ × ℕ) → told (Ok x) p ≡ heard_in q → k x.0 x.1 p ≡ heard q s k
+  unfolding heard heard_as words_of goes_on fails
+  heard_ok x e = go q.answer refl
+    where
+      go : (y : Answer) → q.answer ≡ y → k x.0 x.1 p ≡ heard_as q.answer s q.tape k
+      go (Got a b) n =
+          let u : x ≡ (a, b) = ap (λ (d : Told). words_of d.verdict) e ∙ ap (λ y. words_of (verdict_of y)) n in
+          let t : p ≡ q.tape = ap (λ (d : Told). d.tape) e in
+          rw (n, u, t)
+      go Refused n = absurd (true≢false (ap (λ (d : Told). goes_on d.verdict) e ∙ ap (λ y. goes_on (verdict_of y)) n))
+
+  pub heard_err : (f : Stop) → told (Err f) p ≡ heard_in q → ends (verdict_in {A = A} (Err f)) s p ≡ heard q s k
+  unfolding heard heard_as words_of goes_on fails
+  heard_err f e = go q.answer refl f e
+    where
+      go : (y : Answer) → q.answer ≡ y → (f : Stop) → told (Err f) p ≡ heard_in q → ends (verdict_in {A = A} (Err f)) s p ≡ heard_as q.answer s q.tape k
+      go Refused n NotNext e =
+          let t : p ≡ q.tape = ap (λ (d : Told). d.tape) e in
+          rw (n, t)
+      go Refused n (Failed g) e = absurd (true≢false (ap (λ (d : Told). fails d.verdict) e ∙ ap (λ y. fails (verdict_of y)) n))
+      go (Got a b) n NotNext e = absurd (true≢false (sym (ap (λ (d : Told). goes_on d.verdict) e ∙ ap (λ y. goes_on (verdict_of y)) n)))
+      go (Got a b) n (Failed g) e = absurd (true≢false (sym (ap (λ (d : Told). goes_on d.verdict) e ∙ ap (λ y. goes_on (verdict_of y)) n)))
+
+-- a part of a run that goes on, and one that ends it
+module _ {S A B : Type 0} (s : S) (p : Tape) (w : Writer) (o : Out) (r : Run S A) (k : A → S → Tape → Run S B) where
+  pub onward_ok : (a : A) → left s (Ok a) p w ≡ leaves o r → leaves (out_of w) (k a s p) ≡ leaves o (onward r k)
+  onward_ok a e = onward_go (left s (Ok a) p w) o r k e a refl
+
+  pub onward_err : (f : Stop) → left {S = S} {A = A} s (Err f) p w ≡ leaves o r → left {S = S} {A = B} s (Err f) p w ≡ leaves o (onward r k)
+  onward_err NotNext e = onward_refused (left {S = S} {A = A} s (Err NotNext) p w) o r k e refl
+  onward_err (Failed f) e = onward_failed (left {S = S} {A = A} s (Err (Failed f)) p w) o r k e (failure_number f) refl

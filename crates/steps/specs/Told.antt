@@ -1,5 +1,5 @@
 -- What the reader's methods leave.
-use Rattle.std.specs.Prelude.{ℕ, Bool, cond, Result, Ok, Err, List, drop}
+use Rattle.std.specs.Prelude.{ℕ, Bool, cond, Result, Ok, Err, drop}
 use Rattle.steps.specs.Verdicts.{Verdict}
 use Rattle.steps.specs.Kinds.{verdict_of as verdict_in}
 use Rattle.steps.specs.declared.kinds.Stop.{Stop}
