@@ -2,6 +2,7 @@
 pub mod ChainLaws
 pub mod Logic
 pub mod RunLaws
+pub mod LentRuns
 pub mod RunsInParts
 pub mod AfterRun
 pub mod Parts
