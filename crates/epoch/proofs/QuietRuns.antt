@@ -1,4 +1,5 @@
 -- Runs that have read answers of certain kinds only, whose log has no outputs and no faults 5, and whose state has a property. Assumes nothing.
+use Rattle.std.specs.Prelude.{Option, None}
 use Prim.Native.Nat.{ℕ}
 use mathlib.Core.Path.{◌≡◌, refl, sym, ap}
 use mathlib.Core.List.{List, [], ◌∷◌, ◌++◌, append_assoc}
@@ -8,8 +9,6 @@ use Rattle.steps.specs.declared.reader.Content.{Content}
 use Rattle.steps.specs.declared.reader.Content.TheVariants.{Broadcast, Agreement}
 use Rattle.steps.specs.declared.reader.Answer.{Answer}
 use Rattle.steps.specs.declared.reader.Answer.TheVariants.{Got, Refused}
-use Rattle.steps.specs.declared.reader.Output.{Output}
-use Rattle.steps.specs.declared.reader.Output.TheVariants.{Missing}
 use Rattle.steps.specs.Answers.{Rec, Tape, Asked, ask, ask_about}
 use Rattle.steps.specs.Steps.{Entry, message, fault, output, Item, item, faults, outputs}
 use Rattle.steps.specs.Runs.{Verdict, going, refused, failed, Run, ends, before, onward_as, onward, heard_as, heard, inside}
@@ -71,7 +70,7 @@ quiet_part content proposer kind a b = go (eqb kind 16) (eqb kind 17)
     go false true = quiet_fault (fault_kind content) a b (other content)
     go false false = quiet_none
 
-quiet_parts : (content : Content) (proposer : ℕ) (o : Output) (i : ℕ) (l : List Rec) → Quiet (parts_from content proposer o i l).log
+quiet_parts : (content : Content) (proposer : ℕ) (o : (Option ℕ)) (i : ℕ) (l : List Rec) → Quiet (parts_from content proposer o i l).log
 unfolding parts_from
 quiet_parts content proposer o i [] = quiet_none
 quiet_parts content proposer o i (r ∷ rs) = go (is_part r.kind) refl (quiet_parts content proposer (last_output o r.kind r.b) r.next rs)
@@ -138,8 +137,8 @@ pub orderly_parts : {S : Type 0} {P : S → Type 0} (is : ℕ → Bool) → ((k 
     → Orderly P is p (read_parts content proposer s p)
 orderly_parts is f content proposer s p h = record {
   state = h;
-  past = past_parts_lem is f content proposer Missing p.place p.rest;
-  quiet = quiet_parts content proposer Missing p.place p.rest;
+  past = past_parts_lem is f content proposer None p.place p.rest;
+  quiet = quiet_parts content proposer None p.place p.rest;
 }
 
 -- as a logic of runs

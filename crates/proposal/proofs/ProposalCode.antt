@@ -9,8 +9,6 @@ use Rattle.steps.specs.declared.reader.Answer.{Answer}
 use Rattle.steps.specs.declared.reader.Answer.TheVariants.{Got, Refused as NoAnswer}
 use Rattle.steps.specs.declared.reader.Content.{Content}
 use Rattle.steps.specs.declared.reader.Content.TheVariants.{Broadcast, Agreement}
-use Rattle.steps.specs.declared.reader.Output.{Output}
-use Rattle.steps.specs.declared.reader.Output.TheVariants.{Missing, Value}
 use Rattle.steps.specs.declared.reader.Parts.{Parts}
 use Rattle.steps.specs.declared.step.Step.{Step}
 use Rattle.steps.specs.Answers.{Tape, asked, ask_about}
@@ -49,7 +47,7 @@ pub parts_beside : (s : ProposalState) (r : Parts) (content : Content) (p : ℕ)
     → record { state = s; verdict = going r.output; tape = q; out = out r.step w } ≡ leaves o (read_parts content p s t)
 parts_beside s r content p t q w o e = ap beside e
   where
-    beside : Left (Unit {0}) Output → Left ProposalState Output
+    beside : Left (Unit {0}) (Option ℕ) → Left ProposalState (Option ℕ)
     beside d = record { state = s; verdict = d.verdict; tape = d.tape; out = d.out }
 
 module _ (error p kind : ℕ) (content : Content) (s : ProposalState) (t : Tape) (x : Answer) (q : Tape) (k : asked x q ≡ ask_about t kind p) where
@@ -87,17 +85,17 @@ module _ (error p kind : ℕ) (s : ProposalState) (t : Tape) where
 
 -- THE VALUE
 module _ (error p : ℕ) (t : Tape) where
-  pub value_missing : (s : ProposalState) → after_value error p s Missing t ≡ ends (going None) s t
+  pub value_missing : (s : ProposalState) → after_value error p s None t ≡ ends (going None) s t
   unfolding after_value after_broadcast
   value_missing Ongoing = refl
   value_missing (HasValue v) = refl
   value_missing Accepted = refl
   value_missing (Complete b) = refl
 
-  pub value_votes : (v : ℕ) → after_value error p Ongoing (Value v) t ≡ handle_agreement error p 6 (HasValue v) t
+  pub value_votes : (v : ℕ) → after_value error p Ongoing (Some v) t ≡ handle_agreement error p 6 (HasValue v) t
   unfolding after_value after_broadcast vote_true asks_agreement handle_agreement
   value_votes v = refl
 
-  pub value_output : (v : ℕ) → after_value error p Accepted (Value v) t ≡ ends (going (Some v)) (Complete true) t
+  pub value_output : (v : ℕ) → after_value error p Accepted (Some v) t ≡ ends (going (Some v)) (Complete true) t
   unfolding after_value after_broadcast vote_true asks_agreement
   value_output v = refl

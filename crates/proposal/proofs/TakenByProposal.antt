@@ -10,8 +10,6 @@ use lib.Dec.{eqb}
 use borrow.Author.Tests.{eqb-true, eqb-false, ne_eqb}
 use Rattle.steps.specs.declared.reader.Content.{Content}
 use Rattle.steps.specs.declared.reader.Content.TheVariants.{Broadcast, Agreement}
-use Rattle.steps.specs.declared.reader.Output.{Output}
-use Rattle.steps.specs.declared.reader.Output.TheVariants.{Missing, Value}
 use Rattle.steps.specs.declared.reader.Answer.TheVariants.{Got, Refused}
 use Rattle.steps.specs.Table.{within}
 use Rattle.steps.specs.Answers.{Rec, Tape, tape, asked, ask_for, ask_about}
@@ -50,7 +48,7 @@ module _ (n error p k : ℕ) (content : Content) (i : Instance k) (s : ProposalS
       want : Rec → Bool
       want r = eqb r.kind k && eqb r.b p
 
-      goes : ℕ → ℕ → Tape → Run ProposalState Output
+      goes : ℕ → ℕ → Tape → Run ProposalState (Option ℕ)
       goes a b q = cond (eqb a 0) (ends (failed error) s q) (read_parts content p s q)
 
       told : (r : Rec) (rs : List Rec) → Good n (r ∷ rs) → want r ≡ true → (x : Bool) → eqb r.a 0 ≡ x
@@ -59,8 +57,8 @@ module _ (n error p k : ℕ) (content : Content) (i : Instance k) (s : ProposalS
       told r rs g w false e =
           let both = and-true (eqb r.kind k) (eqb r.b p) w in
           let h = heard_answer n k p r rs i g (eqb-true _ _ both.0) (eqb-true _ _ both.1) (eqb-false r.a 0 e) in
-          let o : option_of (parts_from content p Missing r.next rs).output ≡ last_output_in rs = parts_output content p Missing r.next rs ∙ or_else_none (last_output_in rs) in
-          (refl, rw (o, parts_rest content p Missing r.next rs) h)
+          let o : option_of (parts_from content p None r.next rs).output ≡ last_output_in rs = parts_output content p None r.next rs ∙ or_else_none (last_output_in rs) in
+          (refl, rw (o, parts_rest content p None r.next rs) h)
 
       found : (r : Rec) (rs : List Rec) → Good n (r ∷ rs) → (x : Bool) → want r ≡ x
           → Afterwards (heard (cond x (asked (Got r.a r.b) (tape r.next rs)) (asked Refused u)) s goes) (λ out t z. (t ≡ s) × Heard n k p (r ∷ rs) (option_of out) z.rest)
@@ -78,14 +76,14 @@ pub record Agreed (n k p : ℕ) (v : Option ℕ) (ws : List Rec) (o : Option ℕ
   pub state : s ≡ state_of v answer
   pub out : o ≡ output_of v answer
 
-agree_move : (v : Option ℕ) (out : Output) → after_agreement (state_of v None) out ≡ moved (state_of v (option_of out)) (output_of v (option_of out))
+agree_move : (v : Option ℕ) (out : (Option ℕ)) → after_agreement (state_of v None) out ≡ moved (state_of v (option_of out)) (output_of v (option_of out))
 unfolding after_agreement option_of
-agree_move None Missing = refl
-agree_move None (Value zero) = refl
-agree_move None (Value (suc d)) = rw (ne_eqb (suc d) 0 (λ e. omega arith))
-agree_move (Some v) Missing = refl
-agree_move (Some v) (Value zero) = refl
-agree_move (Some v) (Value (suc d)) = rw (ne_eqb (suc d) 0 (λ e. omega arith))
+agree_move None None = refl
+agree_move None (Some zero) = refl
+agree_move None (Some (suc d)) = rw (ne_eqb (suc d) 0 (λ e. omega arith))
+agree_move (Some v) None = refl
+agree_move (Some v) (Some zero) = refl
+agree_move (Some v) (Some (suc d)) = rw (ne_eqb (suc d) 0 (λ e. omega arith))
 
 pub agreement_ok : (n error p k : ℕ) → Instance k → (v : Option ℕ) (u : Tape) → Good n u.rest
     → Afterwards (answer_agreement error p k (state_of v None) u) (λ o s z. Agreed n k p v u.rest o s z.rest)
@@ -213,16 +211,16 @@ module _ (n error p k : ℕ) (i : Broadcasts k) where
     good = a.heard.good;
   }
 
-  ongoing_ok : (out : Output) (ws : List Rec) (z : Tape) → Heard n k p ws (option_of out) z.rest → Afterwards (after_value error p Ongoing out z) (λ o s y. Went n p None None ws o s y.rest)
+  ongoing_ok : (out : (Option ℕ)) (ws : List Rec) (z : Tape) → Heard n k p ws (option_of out) z.rest → Afterwards (after_value error p Ongoing out z) (λ o s y. Went n p None None ws o s y.rest)
   unfolding after_value after_broadcast vote_true asks_agreement option_of is_there
-  ongoing_ok Missing ws z h = quiet None None ws z.rest (there_zero None refl) h refl
-  ongoing_ok (Value x) ws z h =
+  ongoing_ok None ws z h = quiet None None ws z.rest (there_zero None refl) h refl
+  ongoing_ok (Some x) ws z h =
       after_map (answer_agreement error p 6 (HasValue x) z) _ _ (agreement_ok n error p 6 kind6 (Some x) z h.good) (λ o s y a. voted x ws z.rest y.rest o s h a)
 
-  accepted_ok : (d : ℕ) (out : Output) (ws : List Rec) (z : Tape) → Heard n k p ws (option_of out) z.rest → Afterwards (after_value error p Accepted out z) (λ o s y. Went n p None (Some (suc d)) ws o s y.rest)
+  accepted_ok : (d : ℕ) (out : (Option ℕ)) (ws : List Rec) (z : Tape) → Heard n k p ws (option_of out) z.rest → Afterwards (after_value error p Accepted out z) (λ o s y. Went n p None (Some (suc d)) ws o s y.rest)
   unfolding after_value after_broadcast vote_true asks_agreement option_of is_there
-  accepted_ok d Missing ws z h = quiet (Some (suc d)) None ws z.rest (one_zero d (Some (suc d)) refl) h refl
-  accepted_ok d (Value y) ws z h = quiet (Some (suc d)) (Some y) ws z.rest (one_zero d (Some (suc d)) refl) h refl
+  accepted_ok d None ws z h = quiet (Some (suc d)) None ws z.rest (one_zero d (Some (suc d)) refl) h refl
+  accepted_ok d (Some y) ws z h = quiet (Some (suc d)) (Some y) ws z.rest (one_zero d (Some (suc d)) refl) h refl
 
   pub broadcast_ok : (v d : Option ℕ) → asks_broadcast (state_of v d) ≡ true → (u : Tape) → Good n u.rest
       → Afterwards (answer_broadcast error p k (state_of v d) u) (λ o s z. Went n p v d u.rest o s z.rest)

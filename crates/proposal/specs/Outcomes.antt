@@ -3,7 +3,6 @@ use Rattle.std.specs.Prelude.{ℕ, List}
 use Rattle.std.specs.Prelude.{Option, None, Some}
 use Rattle.steps.specs.Answers.{Tape}
 use Rattle.steps.specs.declared.step.Step.{Step}
-use Rattle.steps.specs.declared.reader.Output.{Output}
 use Rattle.steps.specs.Steps.{out}
 use Rattle.steps.specs.Runs.{Verdict, going, refused, failed, Left}
 use Rattle.proposal.specs.declared.ProposalState.{ProposalState}
@@ -16,12 +15,12 @@ use Rattle.proposal.specs.declared.proposal_state.Transition.{Transition}
 use Rattle.proposal.specs.Proposal.{Moved}
 
 -- The instance's answer goes on with its last output; the proposal keeps its state meanwhile
-abbrev pub told_verdict : Told → Verdict Output
+abbrev pub told_verdict : Told → Verdict (Option ℕ)
 told_verdict (TheOutput o) = going o
 told_verdict NotTold = refused
 told_verdict (FailedTold n) = failed n
 
-abbrev pub left_told : ProposalState → InstanceAnswer → Tape → List ℕ → Left ProposalState Output
+abbrev pub left_told : ProposalState → InstanceAnswer → Tape → List ℕ → Left ProposalState (Option ℕ)
 left_told s r p w = record { state = s; verdict = told_verdict r.outcome; tape = p; out = out r.step w }
 
 -- no output, or the value that is output

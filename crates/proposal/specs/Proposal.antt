@@ -3,8 +3,6 @@ use Rattle.std.specs.Prelude.{ℕ, Bool, true, false, cond, eqb}
 use Rattle.std.specs.Prelude.{Option, None, Some}
 use Rattle.steps.specs.declared.reader.Content.{Content}
 use Rattle.steps.specs.declared.reader.Content.TheVariants.{Broadcast, Agreement}
-use Rattle.steps.specs.declared.reader.Output.{Output}
-use Rattle.steps.specs.declared.reader.Output.TheVariants.{Missing, Value}
 use Rattle.steps.specs.Numbers.{propose_true}
 use Rattle.steps.specs.Answers.{Tape, ask_about}
 use Rattle.steps.specs.Runs.{going, failed, Run, ends, onward, heard}
@@ -42,20 +40,20 @@ abbrev pub moved : ProposalState → Option ℕ → Moved
 moved s v = record { state = s; value = v }
 
 -- the answer of the agreement instance, already read: "A proposal goes Ongoing, then HasValue or Accepted, then Complete"
-unfoldable pub after_agreement : ProposalState → Output → Moved
-after_agreement Ongoing Missing = moved Ongoing None
-after_agreement Ongoing (Value d) = cond (eqb d 0) (moved (Complete false) None) (moved Accepted None)
-after_agreement (HasValue v) Missing = moved (HasValue v) None
-after_agreement (HasValue v) (Value d) = cond (eqb d 0) (moved (Complete false) None) (moved (Complete true) (Some v))
+unfoldable pub after_agreement : ProposalState → (Option ℕ) → Moved
+after_agreement Ongoing None = moved Ongoing None
+after_agreement Ongoing (Some d) = cond (eqb d 0) (moved (Complete false) None) (moved Accepted None)
+after_agreement (HasValue v) None = moved (HasValue v) None
+after_agreement (HasValue v) (Some d) = cond (eqb d 0) (moved (Complete false) None) (moved (Complete true) (Some v))
 after_agreement Accepted out = moved Accepted None
 after_agreement (Complete b) out = moved (Complete b) None
 
 -- the answer of the broadcast instance, already read
-unfoldable pub after_broadcast : ProposalState → Output → Moved
-after_broadcast Ongoing Missing = moved Ongoing None
-after_broadcast Ongoing (Value v) = moved (HasValue v) None
-after_broadcast Accepted Missing = moved Accepted None
-after_broadcast Accepted (Value v) = moved (Complete true) (Some v)
+unfoldable pub after_broadcast : ProposalState → (Option ℕ) → Moved
+after_broadcast Ongoing None = moved Ongoing None
+after_broadcast Ongoing (Some v) = moved (HasValue v) None
+after_broadcast Accepted None = moved Accepted None
+after_broadcast Accepted (Some v) = moved (Complete true) (Some v)
 after_broadcast (HasValue v) out = moved (HasValue v) None
 after_broadcast (Complete b) out = moved (Complete b) None
 
@@ -77,7 +75,7 @@ moved_to m tape = ends (going m.value) m.state tape
 
 module _ (error p : ℕ) where
   -- `convert_bc` and `convert_ba`: an instance's answer of this kind about proposer p, and its last output
-  unfoldable pub instance_answer : ℕ → Content → ProposalState → Tape → Run ProposalState Output
+  unfoldable pub instance_answer : ℕ → Content → ProposalState → Tape → Run ProposalState (Option ℕ)
   instance_answer kind content s tape =
       heard (ask_about tape kind p) s (λ a b tape.
       cond (eqb a 0) (ends (failed error) s tape) (read_parts content p s tape))
@@ -91,9 +89,9 @@ module _ (error p : ℕ) where
   unfoldable pub vote_true : Moved → Tape → Run ProposalState (Option ℕ)
   vote_true m tape = cond (asks_agreement m.state) (answer_agreement propose_true m.state tape) (moved_to m tape)
 
-  unfoldable pub after_value : ProposalState → Output → Tape → Run ProposalState (Option ℕ)
-  after_value s Missing tape = moved_to (after_broadcast s Missing) tape
-  after_value s (Value v) tape = vote_true (after_broadcast s (Value v)) tape
+  unfoldable pub after_value : ProposalState → (Option ℕ) → Tape → Run ProposalState (Option ℕ)
+  after_value s None tape = moved_to (after_broadcast s None) tape
+  after_value s (Some v) tape = vote_true (after_broadcast s (Some v)) tape
 
   -- `Broadcast::broadcast` (kind 3) or `Broadcast::handle_message` (4), of a proposal that asks its broadcast instance
   unfoldable pub answer_broadcast : ℕ → ProposalState → Tape → Run ProposalState (Option ℕ)

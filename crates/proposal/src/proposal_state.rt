@@ -10,13 +10,13 @@ ghost use Rattle.proposal.specs.Outcomes.{transition, transition_of, left_told, 
 
 use crate::ProposalState;
 use steps::numbers::{PROPOSE_FALSE, PROPOSE_TRUE};
-use steps::reader::{Answer, Content, Output};
+use steps::reader::{Answer, Content};
 use steps::step::Step;
 
 // What an instance's answer comes to: its last output, a wanted answer that is not there, or the instance's error.
 #[derive(Clone, Copy)]
 pub enum Told {
-    Output(Output),
+    Output(Option<u64>),
     Refused,
     Failed(u64),
 }
@@ -156,13 +156,13 @@ impl ProposalState {
     }
 
     // The agreement's output, if it had one, is the decision.
-    fn after_agreement(self, output: Output, step: Step) -> Transition
+    fn after_agreement(self, output: Option<u64>, step: Step) -> Transition
         ensures { result ≡ transition_of (after_agreement self output) step }
     {
         match self {
             ProposalState::Ongoing => match output {
-                Output::Missing => self.transition(Outcome::Nothing, step),
-                Output::Value(decision) => {
+                None => self.transition(Outcome::Nothing, step),
+                Some(decision) => {
                     if decision == 0 {
                         return ProposalState::Complete(false).transition(Outcome::Nothing, step);
                     }
@@ -170,8 +170,8 @@ impl ProposalState {
                 }
             },
             ProposalState::HasValue(value) => match output {
-                Output::Missing => self.transition(Outcome::Nothing, step),
-                Output::Value(decision) => {
+                None => self.transition(Outcome::Nothing, step),
+                Some(decision) => {
                     if decision == 0 {
                         return ProposalState::Complete(false).transition(Outcome::Nothing, step);
                     }
@@ -234,7 +234,7 @@ impl ProposalState {
         self,
         error: u64,
         proposer: u64,
-        output: Output,
+        output: Option<u64>,
         answers: &[u64],
         place: &mut usize,
         step: Step,
@@ -245,8 +245,8 @@ impl ProposalState {
             ≡ leaves (out step words.old) (after_value error proposer self output (tape_at answers.now place.old)) }
     {
         match output {
-            Output::Missing => self.transition(Outcome::Nothing, step),
-            Output::Value(value) => match self {
+            None => self.transition(Outcome::Nothing, step),
+            Some(value) => match self {
                 ProposalState::Ongoing => ProposalState::HasValue(value).handle_agreement(
                     error,
                     proposer,

@@ -11,8 +11,6 @@ use lib.Dec.{ltb, eqb}
 use borrow.Author.Tests.{le-ltb, lt-ltb, ltb-true}
 use Rattle.steps.specs.declared.reader.Content.{Content}
 use Rattle.network.specs.declared.network_info.NetworkInfo.{NetworkInfo}
-use Rattle.steps.specs.declared.reader.Output.{Output}
-use Rattle.steps.specs.declared.reader.Output.TheVariants.{Missing, Value}
 use Rattle.steps.specs.Answers.{Tape}
 use Rattle.steps.specs.Runs.{Run}
 use Rattle.steps.proofs.Ranges.{AllSmall, Kept, Any, SmallOption, SmallOutput, kept_any, small, keeping, within_below, kept_inside, Below, below_set}
@@ -109,22 +107,22 @@ moved_cond : (x : Bool) (m k : Moved) → MovedOk m → MovedOk k → MovedOk (c
 moved_cond true m k f g = f
 moved_cond false m k f g = g
 
-agreement_moves : (s : ProposalState) (out : Output) → ProposalOk s → MovedOk (after_agreement s out)
+agreement_moves : (s : ProposalState) (out : (Option ℕ)) → ProposalOk s → MovedOk (after_agreement s out)
 unfolding after_agreement ProposalOk SmallOption
-agreement_moves Ongoing Missing h = record { state = tt; value = tt }
-agreement_moves Ongoing (Value d) h = moved_cond (eqb d 0) _ _ (record { state = tt; value = tt }) (record { state = tt; value = tt })
-agreement_moves (HasValue v) Missing h = record { state = h; value = tt }
-agreement_moves (HasValue v) (Value d) h = moved_cond (eqb d 0) _ _ (record { state = tt; value = tt }) (record { state = tt; value = h })
+agreement_moves Ongoing None h = record { state = tt; value = tt }
+agreement_moves Ongoing (Some d) h = moved_cond (eqb d 0) _ _ (record { state = tt; value = tt }) (record { state = tt; value = tt })
+agreement_moves (HasValue v) None h = record { state = h; value = tt }
+agreement_moves (HasValue v) (Some d) h = moved_cond (eqb d 0) _ _ (record { state = tt; value = tt }) (record { state = tt; value = h })
 agreement_moves Accepted out h = record { state = tt; value = tt }
 agreement_moves (Complete b) out h = record { state = tt; value = tt }
 
-broadcast_moves : (s : ProposalState) (out : Output) → ProposalOk s → SmallOutput out → MovedOk (after_broadcast s out)
+broadcast_moves : (s : ProposalState) (out : (Option ℕ)) → ProposalOk s → SmallOutput out → MovedOk (after_broadcast s out)
 unfolding after_broadcast ProposalOk SmallOption
-broadcast_moves Ongoing Missing h o = record { state = tt; value = tt }
-broadcast_moves Ongoing (Value v) h o = record { state = o; value = tt }
+broadcast_moves Ongoing None h o = record { state = tt; value = tt }
+broadcast_moves Ongoing (Some v) h o = record { state = o; value = tt }
 broadcast_moves (HasValue v) out h o = record { state = h; value = tt }
-broadcast_moves Accepted Missing h o = record { state = tt; value = tt }
-broadcast_moves Accepted (Value v) h o = record { state = tt; value = o }
+broadcast_moves Accepted None h o = record { state = tt; value = tt }
+broadcast_moves Accepted (Some v) h o = record { state = tt; value = o }
 broadcast_moves (Complete b) out h o = record { state = tt; value = tt }
 
 -- A PROPOSAL IN ITS TWO WORDS

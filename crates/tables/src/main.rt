@@ -18,7 +18,7 @@ use decryption::{Outcome, ThresholdDecrypt};
 use lines::{line_end, line_ends, number, numbers, say};
 use network::network_info::NetworkInfo;
 use std::io::{self, BufWriter, Read, Write};
-use steps::reader::{Answer, Content, Output};
+use steps::reader::{Answer, Content};
 use steps::step::Step;
 
 fn line_begins<W: Write>(out: &mut W) -> io::Result<()> {
@@ -41,7 +41,7 @@ fn show<W: Write>(out: &mut W, words: &[u64; 20]) -> io::Result<()> {
 enum Told {
     Refused,
     No,
-    Output(Output),
+    Output(Option<u64>),
 }
 
 #[derive(Clone, Copy)]
@@ -55,8 +55,8 @@ fn show_told<W: Write>(out: &mut W, told: Told) -> io::Result<()> {
         Told::Refused => say(out, b"  reply 8\n"),
         Told::No => say(out, b"  a 0\n"),
         Told::Output(output) => match output {
-            Output::Missing => say(out, b"  no output\n"),
-            Output::Value(b) => {
+            None => say(out, b"  no output\n"),
+            Some(b) => {
                 say(out, b"  output")?;
                 number(out, b)?;
                 say(out, b"\n")
