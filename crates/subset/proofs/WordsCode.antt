@@ -18,13 +18,6 @@ pub bit_of : (r p : ℕ) (t u : Bool) → r ≡ bool_byte t → t ≡ u → p < 
 bit_of r p true u e f h = rw (e, ← f) (shifted p h)
 bit_of r p false u e f h = rw (e, ← f) (omega arith)
 
--- PLACES are small
-pub place_small : (n p : ℕ) → n ≤ 16 → p < n → p * (8 + n) ≤ 384
-place_small n p few h = let l : p ≤ 16 = omega arith in omega (arith, mul-le-mul_right (8 + n) l)
-
-pub before_end : (n p size : ℕ) → p < n → 1 ≤ size → p * size < n * size
-before_end n p size h l = omega (arith, mul-le-mul_right size h, suc-mul p size)
-
 -- A WORD MADE OF BITS, one bit more
 module _ (is : ℕ → Bool) (n p : ℕ) where
   pub bits_turn : p < n → bits_from is (n - p) p ≡ cond (is p) (2 ^ p) 0 + bits_from is (n - (p + 1)) (p + 1)
