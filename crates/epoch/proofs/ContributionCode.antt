@@ -1,11 +1,11 @@
 -- Contributions and the end of `process_subset`: what the code leaves, case by case. Assumes nothing.
-use Prim.Native.Nat.{ℕ, zero, suc, ◌+◌, ◌-◌, ◌<◌, ◌≤◌}
+use Prim.Native.Nat.{ℕ, suc, ◌+◌, ◌-◌, ◌<◌, ◌≤◌}
 use native.Mathlib.Omega.{arith}
 use mathlib.Core.Path.{◌≡◌, refl, sym, ap, ◌∙◌}
-use mathlib.Core.List.{List, [], ◌∷◌, ◌++◌, append-nil}
+use mathlib.Core.List.{List}
 use mathlib.Core.Bool.{Bool, true, false, cond}
-use lib.ListN.{length, get_or, set, drop, replicate, length-replicate}
-use lib.Seq.{get_or-set_same, get_or-set_other, set_out, set_at, drop-cons, drop-length}
+use lib.ListN.{length, get_or, set}
+use lib.Seq.{get_or-set_same, get_or-set_other, set_out}
 use lib.Dec.{eqb, ltb}
 use borrow.Author.Tests.{eqb-true, eqb-false, ltb-true, ltb-false}
 use Rattle.network.specs.declared.network_info.NetworkInfo.{NetworkInfo}
@@ -14,7 +14,7 @@ use Rattle.steps.specs.Steps.{Out, put_all}
 use Rattle.steps.specs.Runs.{Verdict, going, ends, onward_as, onward, Left, leaves}
 use Rattle.steps.proofs.RunLaws.{onward_go, onward_stop}
 use Rattle.decryption.specs.Decrypt.{new}
-use Rattle.subset.specs.Words.{epoch_length, new_epoch, count_at, value_at, arrival_at, contributor, drop_from, record_at}
+use Rattle.subset.specs.Words.{epoch_length, count_at, value_at, arrival_at, contributor, drop_from, record_at}
 use Rattle.epochwords.specs.declared.SubsetHandlingStrategy.{SubsetHandlingStrategy}
 use Rattle.epochwords.specs.declared.SubsetHandlingStrategy.TheVariants.{Incremental, AllAtEnd}
 use Rattle.epoch.specs.declared.epoch_state.Outcome.{Outcome}
@@ -168,22 +168,3 @@ module _ (net : NetworkInfo) (strategy : SubsetHandlingStrategy) (encrypted done
         (e
         ∙ ap (λ (b : Bool). leaves d.out (cond b (finish_from net net.num_nodes 0 (subset_complete d.state) d.tape) (ends (going tt) d.state d.tape))) (sym f)
         ∙ onward_go d o (handle_contributions net strategy encrypted w t) (λ _ w t. cond done (finish_from net net.num_nodes 0 (subset_complete w) t) (ends (going tt) w t)) k tt n)
-
--- A NEW EPOCH: one word more is 0
-zeros_more : (i : ℕ) (l : List ℕ) → replicate i 0 ++ (0 ∷ l) ≡ replicate (suc i) 0 ++ l
-zeros_more zero l = refl
-zeros_more (suc i) l = ap (λ (m : List ℕ). 0 ∷ m) (zeros_more i l)
-
-pub zero_turn : (i : ℕ) (w now : List ℕ) → i < length w → now ≡ replicate i 0 ++ drop i w → set now i 0 ≡ replicate (i + 1) 0 ++ drop (i + 1) w
-zero_turn i w now h e =
-    let s : i + 1 ≡ suc i = omega arith in
-    rw (e, s, drop-cons w i 0 h)
-    (set_at (replicate i 0) (get_or w i 0) (drop (suc i) w) 0 i (length-replicate i 0) ∙ zeros_more i (drop (suc i) w))
-
-pub zero_done : (n i : ℕ) (w now : List ℕ) → length w ≡ epoch_length n → i ≤ length w → length w ≤ i → now ≡ replicate i 0 ++ drop i w → set now 0 1 ≡ new_epoch n
-unfolding new_epoch
-zero_done n i w now l a b e =
-    let z : i ≡ epoch_length n = omega arith in
-    let d : drop i w ≡ [] = ap (λ (k : ℕ). drop k w) (z ∙ sym l) ∙ drop-length w in
-    let f : now ≡ replicate (epoch_length n) 0 = e ∙ ap (λ (m : List ℕ). replicate i 0 ++ m) d ∙ append-nil (replicate i 0) ∙ ap (λ (k : ℕ). replicate k 0) z in
-    ap (λ (m : List ℕ). set m 0 1) f

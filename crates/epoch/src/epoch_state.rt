@@ -815,14 +815,11 @@ pub fn handle_from(
 }
 
 // `EpochState::new`: an epoch whose instances have just been built.
+#[tactic(auto, unfolding(subset::specs::Words::new_epoch))]
 pub fn new_epoch(epoch: &mut [u64], n: usize)
     requires { EpochWords n epoch.old }
     ensures { epoch.new ≡ new_epoch n }
 {
-    let mut i: usize = 0;
-    while i < epoch.len() {
-        epoch[i] = 0;
-        i += 1;
-    }
+    epoch.fill(0);
     epoch[STATUS_AT] = STATUS_ONGOING;
 }

@@ -1,15 +1,17 @@
 -- Laws for the code that loads and stores decryption entries. Assumes nothing.
 use Prim.Native.Nat.{ℕ, zero, suc, ◌+◌, ◌-◌, ◌*◌, ◌<◌, ◌≤◌}
-use mathlib.Core.Path.{◌≡◌, refl, ap, ◌∙◌}
+use mathlib.Core.Path.{◌≡◌, refl, sym}
+use mathlib.Core.Bool.{Bool, true, false}
 use mathlib.Core.List.{List, [], ◌∷◌, ◌++◌, append_assoc}
 use native.Mathlib.Omega.{arith}
 use native.Mathlib.Nat.{mul-le-mul_right, suc-mul}
-use lib.ListN.{length, get_or, set, replicate}
-use lib.Seq.{set_at}
+use lib.ListN.{length, get_or, set, take, drop, replicate, length-set, take-append-drop}
+use lib.Seq.{drop-cons, take-suc-set, drop-set-lt, drop-drop}
+use Rattle.std.proofs.lemmas.List.{drop-replicate}
+use borrow.Rule.Slice.PartMut.{put_mid}
+use mir.Val.{bool_byte}
 use Rattle.subset.specs.Words.{record_at, epoch_length}
-use lib.Dec.{eqb}
-use mathlib.Core.Bool.{not}
-use Rattle.epochwords.specs.Words.{ciphertext_at, had_input_at, terminated_at, share_at, shares_from, load_instance, set_shares}
+use Rattle.epochwords.specs.Words.{share_at, shares_from, set_shares, flag}
 
 -- before the first turn of a loop, n are left
 pub all_left : (n : ℕ) → n - 0 ≡ n
@@ -28,53 +30,50 @@ epoch_small n h =
 pub record_inside : (n p : ℕ) → n ≤ 16 → p < n → (record_at n p 7 < epoch_length n) × (epoch_length n ≤ 400)
 record_inside n p few h = (within_record n p 7 h (omega arith), epoch_small n few)
 
--- SHARES that are loaded: one more
+-- SHARES as one part of the words: those that are loaded
 module _ (n p : ℕ) where
-  shares_length : (m i : ℕ) (w : List ℕ) → length (shares_from n p m i w) ≡ m
+  shares_part : (m i : ℕ) (w : List ℕ) → share_at n p i + m ≤ length w → shares_from n p m i w ≡ take m (drop (share_at n p i) w)
   unfolding shares_from
-  shares_length zero i w = refl
-  shares_length (suc m) i w = ap suc (shares_length m (i + 1) w)
+  shares_part zero i w h = refl
+  shares_part (suc m) i w h =
+      let l : share_at n p i < length w = omega arith in
+      let e : share_at n p (i + 1) ≡ suc (share_at n p i) = omega arith in
+      rw (shares_part m (i + 1) w (omega arith), e, drop-cons w (share_at n p i) 0 l)
 
-  shares_last : (m i : ℕ) (w : List ℕ) → shares_from n p (suc m) i w ≡ shares_from n p m i w ++ (get_or w (share_at n p (i + m)) 0 ∷ [])
-  unfolding shares_from
-  shares_last zero i w =
-      let e : i + 0 ≡ i = omega arith in
-      rw e
-  shares_last (suc m) i w =
-      let e : i + 1 + m ≡ i + suc m = omega arith in
-      ap (λ (l : List ℕ). get_or w (share_at n p i) 0 ∷ l) (shares_last m (i + 1) w ∙ ap (λ (k : ℕ). shares_from n p m (i + 1) w ++ (get_or w (share_at n p k) 0 ∷ [])) e)
-
-  pub load_turn : (i : ℕ) (w now : List ℕ) → i < 16 → now ≡ shares_from n p i 0 w ++ replicate (16 - i) 0
-      → set now i (get_or w (share_at n p i) 0) ≡ shares_from n p (i + 1) 0 w ++ replicate (16 - (i + 1)) 0
-  load_turn i w now h e =
-      let z : 16 - i ≡ suc (16 - (i + 1)) = omega arith in
-      let s : i + 1 ≡ suc i = omega arith in
-      let k : 0 + i ≡ i = omega arith in
-      rw (e, z, s, shares_last i 0 w, k, append_assoc)
-      (set_at (shares_from n p i 0 w) 0 (replicate (16 - suc i) 0) (get_or w (share_at n p i) 0) i (shares_length i 0 w))
-
--- and stored: one more, and the last
-module _ (n p i : ℕ) (s w : List ℕ) where
-  pub store_turn : i < n → set_shares n p (n - i) i s w ≡ set_shares n p (n - (i + 1)) (i + 1) s (set w (share_at n p i) (get_or s i 0))
+  -- and those that are stored
+  shares_put : (m i : ℕ) (s w : List ℕ) → share_at n p i + m ≤ length w → i + m ≤ length s
+      → set_shares n p m i s w ≡ take (share_at n p i) w ++ (take m (drop i s) ++ drop (share_at n p i + m) w)
   unfolding set_shares
-  store_turn h =
-      let e : n - i ≡ suc (n - (i + 1)) = omega arith in
-      rw e
+  shares_put zero i s w h k =
+      let e : share_at n p i + 0 ≡ share_at n p i = omega arith in
+      rw e (sym (take-append-drop (share_at n p i) w))
+  shares_put (suc m) i s w h k =
+      let a = share_at n p i in
+      let x = get_or s i 0 in
+      let v = set w a x in
+      let l : share_at n p i < length w = omega arith in
+      let b : i < length s = omega arith in
+      let e : share_at n p (i + 1) ≡ suc (share_at n p i) = omega arith in
+      let f : suc (share_at n p i) + m ≡ share_at n p i + suc m = omega arith in
+      let g : i + 1 ≡ suc i = omega arith in
+      rw (shares_put m (i + 1) s (set w (share_at n p i) (get_or s i 0)) (rw length-set (omega arith)) (omega arith), e, f, g, drop-cons s i 0 b, take-suc-set w (share_at n p i) (get_or s i 0) l, drop-set-lt (share_at n p i + suc m) w (share_at n p i) (get_or s i 0) (omega arith))
+      (append_assoc (take (share_at n p i) w) (get_or s i 0 ∷ []) _)
 
-  pub store_done : n ≤ i → set_shares n p (n - i) i s w ≡ w
-  unfolding set_shares
-  store_done h =
-      let e : n - i ≡ 0 = omega arith in
-      rw e
+  -- as the code has them
+  module _ (few : n ≤ 16) (h : p < n) (w : List ℕ) (long : length w ≡ epoch_length n) where
+    last_share : share_at n p 0 + n ≤ length w
+    last_share = omega (arith, within_record n p (7 + n) h (omega arith))
 
-pub loaded : (n p i : ℕ) (w now : List ℕ) → i ≤ n → n ≤ i → now ≡ shares_from n p i 0 w ++ replicate (16 - i) 0
-    → record {
-      ciphertext = get_or w (ciphertext_at n p) 0;
-      shares = now;
-      had_input = not (eqb (get_or w (had_input_at n p) 0) 0);
-      terminated = not (eqb (get_or w (terminated_at n p) 0) 0);
-    } ≡ load_instance n w p
-unfolding load_instance
-loaded n p i w now l h e =
-    let z : i ≡ n = omega arith in
-    rw (e, z)
+    pub loaded : (x : List ℕ) (at : ℕ) → at ≡ share_at n p 0 → x ≡ take (at + n - at) (drop at w) → x ++ drop n (replicate 16 0) ≡ shares_from n p n 0 w ++ replicate (16 - n) 0
+    loaded x at a e =
+        let z : at + n - at ≡ n = omega arith in
+        rw (e, z, a, shares_part n 0 w last_share, drop-replicate {X = ℕ} n 16 0)
+
+    pub stored : (x s : List ℕ) (at : ℕ) → at ≡ share_at n p 0 → n ≤ length s → x ≡ take n s → put_mid at (at + n - at) w x ≡ set_shares n p n 0 s w
+    stored x s at a l e =
+        let z : at + n - at ≡ n = omega arith in
+        rw (e, z, a, shares_put n 0 s w last_share (omega arith), drop-drop)
+
+pub flag_is : (b : Bool) → bool_byte b ≡ flag b
+flag_is true = refl
+flag_is false = refl

@@ -13,11 +13,10 @@ use borrow.Author.Tests.{le-leb, lt-ltb, le-ltb, ltb-true, ltb-false, eq-eqb, eq
 use Rattle.steps.proofs.ChainLaws.{and-true as parts, same_tests}
 use Rattle.steps.proofs.Ranges.{and_both}
 use Rattle.subset.specs.Words.{record_length, record_at, epoch_length, tag_complete_true, status_of, status_complete, decided_at, accepted_of, count_of}
-use Rattle.subset.proofs.Ranges.{field_limit, two_some}
+use Rattle.subset.proofs.Ranges.{field_limit}
 use Rattle.epochwords.specs.declared.SubsetHandlingStrategy.{SubsetHandlingStrategy}
 use Rattle.epochwords.specs.Shape.{EpochWords}
 use Rattle.epochwords.specs.Words.{maybe_handle, all_from, record_in_range, small_in_range, records_in_range, entry_complete, most_kept, epoch_in_range}
-use Rattle.epochwords.proofs.BatchCode.{all_left}
 use Rattle.epochwords.proofs.LimitsOfWords.{all_at, all_every, record_below}
 
 -- two words joined are below a power of two where both are
@@ -33,10 +32,7 @@ join_below a b k = go (ltb a (2 ^ k)) (ltb b (2 ^ k)) refl refl
 abbrev Joins : ℕ → ℕ → ℕ → List ℕ → Type 0
 Joins r m i w = (k : ℕ) → ltb r (2 ^ k) ≡ all_from (λ x. ltb x (2 ^ k)) m i w
 
--- all of them, one more, or none left
-pub join_first : (k m : ℕ) (w : List ℕ) → ltb 0 (2 ^ k) && all_from (λ x. ltb x (2 ^ k)) (m - 0) 0 w ≡ all_from (λ x. ltb x (2 ^ k)) m 0 w
-join_first k m w = rw (lt-ltb 0 (2 ^ k) (two_some k), all_left m)
-
+-- one more, or none left
 module _ (k : ℕ) (w : List ℕ) (joined i end : ℕ) where
   abbrev rest : ℕ → Bool
   rest j = all_from (λ x. ltb x (2 ^ k)) (end - j) j w

@@ -1,7 +1,7 @@
 // The decryption entries in the words of an epoch: tag, plaintext and instance of a proposer's entry beside each other.
 ghost use Rattle.std.specs.Prelude.{◌≡◌, ◌<◌, get_or};
 ghost use Rattle.epochwords.specs.Shape.{EpochWords};
-ghost use Rattle.epochwords.specs.Words.{decryption_at, flag, load_instance, load_entry, set_shares, store_entry};
+ghost use Rattle.epochwords.specs.Words.{decryption_at, load_instance, load_entry, set_shares, store_entry};
 
 use crate::tags::ENTRY_NONE;
 use crate::words::{
@@ -25,12 +25,9 @@ pub fn load_instance(epoch: &[u64], n: usize, p: usize) -> ThresholdDecrypt
     ensures { result ≡ load_instance n epoch.now p }
 {
     let at = RECORDS_AT + p * (RECORD_FIELDS + n);
+    let first = at + SHARES_FIELD;
     let mut shares = [0u64; 16];
-    let mut i: usize = 0;
-    while i < n {
-        shares[i] = epoch[at + (SHARES_FIELD + i)];
-        i += 1;
-    }
+    shares[..n].copy_from_slice(&epoch[first..first + n]);
     ThresholdDecrypt {
         ciphertext: epoch[at + CIPHERTEXT_FIELD],
         shares,
@@ -50,25 +47,13 @@ pub fn load_entry(epoch: &[u64], n: usize, p: usize) -> ThresholdDecrypt
     load_instance(epoch, n, p)
 }
 
-fn flag(b: bool) -> u64
-    ensures { result ≡ flag b }
-{
-    if b {
-        return 1;
-    }
-    0
-}
-
+// Sets its shares.
 fn store_shares(epoch: &mut [u64], n: usize, p: usize, shares: [u64; 16])
     requires { EpochWords n epoch.old × (p < n) }
     ensures { epoch.new ≡ set_shares n p n 0 shares epoch.old }
 {
-    let at = RECORDS_AT + p * (RECORD_FIELDS + n);
-    let mut i: usize = 0;
-    while i < n {
-        epoch[at + (SHARES_FIELD + i)] = shares[i];
-        i += 1;
-    }
+    let first = RECORDS_AT + p * (RECORD_FIELDS + n) + SHARES_FIELD;
+    epoch[first..first + n].copy_from_slice(&shares[..n]);
 }
 
 // Sets all words of proposer p's entry.
@@ -87,8 +72,8 @@ pub fn store_entry(
     epoch[at + DECRYPTION_FIELD] = tag;
     epoch[at + PLAINTEXT_FIELD] = plaintext;
     epoch[at + CIPHERTEXT_FIELD] = td.ciphertext;
-    epoch[at + HAD_INPUT_FIELD] = flag(td.had_input);
-    epoch[at + TERMINATED_FIELD] = flag(td.terminated);
+    epoch[at + HAD_INPUT_FIELD] = u64::from(td.had_input);
+    epoch[at + TERMINATED_FIELD] = u64::from(td.terminated);
     let shares = td.shares;
     store_shares(epoch, n, p, shares);
 }

@@ -22,15 +22,14 @@ fn join(words: &[u64]) -> u64
     ensures { (k : ℕ) → ltb result (2 ^ k) ≡ all_from (λ x. ltb x (2 ^ k)) (length words.now) 0 words.now }
 {
     let mut joined: u64 = 0;
-    let mut i: usize = 0;
-    while i < words.len() {
-        joined = joined | words[i];
-        i += 1;
+    for word in words {
+        joined |= *word;
     }
     joined
 }
 
 // Whether the words of proposer p's record that have smaller limits than handles keep them.
+#[tactic(auto, using(crate::proofs::RangeCode::record_end), unfolding(crate::specs::Words::small_in_range))]
 fn small_in_range(epoch: &[u64], n: usize, p: usize) -> bool
     requires { EpochWords n epoch.now × (p < n) }
     ensures { result ≡ small_in_range n epoch.now p }
@@ -44,6 +43,7 @@ fn small_in_range(epoch: &[u64], n: usize, p: usize) -> bool
 }
 
 // How many contributions are kept between calls at most.
+#[tactic(auto, unfolding(crate::specs::Words::most_kept))]
 fn most_kept(strategy: SubsetHandlingStrategy, n: usize) -> u64
     ensures { result ≡ most_kept strategy n }
 {
@@ -72,10 +72,8 @@ pub fn epoch_in_range(epoch: &[u64], strategy: SubsetHandlingStrategy, n: usize)
     if joined == 0 {
         return ok;
     }
-    let mut p: usize = 0;
-    while p < n {
-        ok = ok & small_in_range(epoch, n, p);
-        p += 1;
+    for p in 0..n {
+        ok &= small_in_range(epoch, n, p);
     }
     ok
 }

@@ -10,6 +10,7 @@ pub const ENTRY_ONGOING: u64 = 1;
 pub const ENTRY_COMPLETE: u64 = 2;
 
 // Whether a share or a ciphertext that comes is asked about outside.
+#[tactic(auto, unfolding(crate::specs::Words::asks))]
 pub fn asks(tag: u64) -> bool
     ensures { result ≡ asks tag }
 {
@@ -17,6 +18,7 @@ pub fn asks(tag: u64) -> bool
 }
 
 // Whether the epoch no longer waits for it.
+#[tactic(auto, unfolding(crate::specs::Words::is_settled))]
 pub fn is_settled(tag: u64) -> bool
     ensures { result ≡ is_settled tag }
 {
@@ -24,6 +26,7 @@ pub fn is_settled(tag: u64) -> bool
 }
 
 // Whether it has a plaintext, of which a batch asks whether it reads.
+#[tactic(auto, unfolding(crate::specs::Words::is_open))]
 pub fn is_open(tag: u64) -> bool
     ensures { result ≡ is_open tag }
 {

@@ -1,18 +1,17 @@
 -- Laws for the code that checks a state's ranges, and what a state in range gives the code below. Assumes nothing.
-use Prim.Native.Nat.{ℕ, zero, suc, ◌+◌, ◌-◌, ◌*◌, ◌≤◌, ◌<◌}
-use mathlib.Core.Path.{◌≡◌, refl, sym, ap, ◌∙◌}
+use Prim.Native.Nat.{ℕ, suc, ◌+◌, ◌-◌, ◌*◌, ◌≤◌, ◌<◌}
+use mathlib.Core.Path.{◌≡◌, refl, sym, ◌∙◌}
 use mathlib.Core.List.{List, [], ◌∷◌}
 use mathlib.Core.Bool.{Bool, true, false, ◌&&◌, ◌||◌, and-true, and_assoc}
 use native.Mathlib.Omega.{arith}
-use native.Mathlib.Nat.{suc-mul}
-use lib.ListN.{length, get_or, take, drop, length-drop}
-use lib.Seq.{length-take-le}
+use native.Mathlib.Nat.{add-mul}
+use lib.ListN.{length, get_or, take, drop}
 use lib.Bits.{bit_or}
 use lib.Dec.{eqb, leb, ltb}
-use borrow.Author.Tests.{leb-true, ltb-true, ltb-false, eq-eqb}
+use borrow.Author.Tests.{leb-true, ltb-true, eq-eqb}
 use Rattle.steps.specs.Numbers.{node_limit, ahead_limit}
 use Rattle.subset.specs.Words.{epoch_length}
-use Rattle.epochwords.specs.Shape.{EpochWords, Listed}
+use Rattle.epochwords.specs.Shape.{Listed}
 use Rattle.epochwords.specs.Words.{all_from, epoch_in_range}
 use Rattle.epochwords.proofs.RangeCode.{none_below, join_below}
 use Rattle.epochwords.proofs.LimitsOfWords.{ok_listed}
@@ -58,15 +57,6 @@ module _ (w : List ℕ) where
       go s false a true b c = omega (arith, s.few, s.faulty, ltb-true node_limit (faulty w) b)
       go s false a false b c = omega (arith, s.near, ltb-true ahead_limit (ahead w) c)
 
-  pub header_small : large ≡ false → (nodes w ≤ node_limit) × (faulty w ≤ node_limit) × (ahead w ≤ ahead_limit)
-  header_small t = go (ltb node_limit (nodes w)) refl (ltb node_limit (faulty w)) refl t
-    where
-      go : (x : Bool) → ltb node_limit (nodes w) ≡ x → (y : Bool) → ltb node_limit (faulty w) ≡ y → x || y || ltb ahead_limit (ahead w) ≡ false
-          → (nodes w ≤ node_limit) × (faulty w ≤ node_limit) × (ahead w ≤ ahead_limit)
-      go true a y b c = let z : ◌≡◌ {A = ℕ} 0 1 = cc in absurd (omega arith)
-      go false a true b c = let z : ◌≡◌ {A = ℕ} 0 1 = cc in absurd (omega arith)
-      go false a false b c = (ltb-false node_limit (nodes w) a, ltb-false node_limit (faulty w) b, ltb-false ahead_limit (ahead w) c)
-
 -- the tests as the code joins them, from the left
 pub in_order : (a b c d e f g h i j k l m n : Bool) → a && b && c && d && e && f && g && h && i && j && k && l && m && n
     ≡ all_hold (a ∷ b ∷ c ∷ d ∷ e ∷ f ∷ g ∷ h ∷ i ∷ j ∷ k ∷ l ∷ m ∷ n ∷ [])
@@ -84,31 +74,22 @@ vacant_zero w =
     (and_assoc (eqb (get_or w 13 0) 0) (eqb (get_or w 14 0) 0) (eqb (get_or w 15 0) 0))
 
 -- EPOCHS: one more, or none left
-module _ (w : List ℕ) (ok : Bool) where
-  pub epochs_turn : (left at l end : ℕ) → 0 < left → l ≡ epoch_length (nodes w) → end ≡ at + l → (here : Bool)
-      → here ≡ epoch_in_range (strategy_of w) (nodes w) (take (end - at) (drop at w))
-      → (ok && here) && epochs_in_range w (left - 1) end ≡ ok && epochs_in_range w left at
+module _ (w : List ℕ) (ok : Bool) (start places place l : ℕ) where
+  pub epochs_turn : place < places → l ≡ epoch_length (nodes w) → (here : Bool)
+      → here ≡ epoch_in_range (strategy_of w) (nodes w) (take (start + place * l + l - (start + place * l)) (drop (start + place * l) w))
+      → (ok && here) && epochs_in_range w (places - (place + 1)) (start + (place + 1) * l) ≡ ok && epochs_in_range w (places - place) (start + place * l)
   unfolding epochs_in_range
-  epochs_turn left at l end h z t here r =
-      let e : left ≡ suc (left - 1) = omega arith in
-      let y : end - at ≡ epoch_length (nodes w) = omega arith in
-      let x : end ≡ at + epoch_length (nodes w) = omega arith in
-      rw (ap (λ k. epochs_in_range w k at) e, r, y, x) (and_assoc ok _ _)
+  epochs_turn h z here r =
+      let e : places - place ≡ suc (places - (place + 1)) = omega arith in
+      let y : start + place * l + l - (start + place * l) ≡ epoch_length (nodes w) = omega arith in
+      let x : start + (place + 1) * l ≡ start + place * l + epoch_length (nodes w) = omega (arith, add-mul place 1 l) in
+      rw (e, r, y, x) (and_assoc ok _ _)
 
-  pub epochs_over : (left at : ℕ) → left ≡ 0 → ok ≡ (ok && epochs_in_range w left at)
+  pub epochs_over : places ≤ place → ok ≡ (ok && epochs_in_range w (places - place) (start + place * l))
   unfolding epochs_in_range
-  epochs_over left at e = rw e (sym (and-true ok))
-
-pub part_epoch : (w : List ℕ) → StateWords w → (at l end : ℕ) → l ≡ epoch_length (nodes w) → end ≡ at + l → end ≤ length w → EpochWords (nodes w) (take (end - at) (drop at w))
-part_epoch w h at l end z t f =
-    record { few = h.few; long = length-take-le (end - at) (drop at w) (rw (length-drop at w) (omega arith)) ∙ omega arith }
-
--- how far the epochs go
-pub room_turn : (left l at n : ℕ) → 0 < left → at + left * l ≡ n → (at + l + (left - 1) * l ≡ n) × (at + l ≤ n)
-room_turn zero l at n h e = absurd (omega arith)
-room_turn (suc k) l at n h e =
-    let z : suc k - 1 ≡ k = omega arith in
-    rw z (omega (arith, suc-mul k l), omega (arith, suc-mul k l))
+  epochs_over h =
+      let e : places - place ≡ 0 = omega arith in
+      rw e (sym (and-true ok))
 
 -- THE STATE
 module _ (w : List ℕ) where

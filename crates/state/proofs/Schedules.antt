@@ -3,9 +3,9 @@ use Prim.Native.Nat.{ℕ, zero, suc, ◌+◌, ◌-◌, ◌*◌, ◌%◌, ◌≤�
 use native.Mathlib.Nat.{mod-lt, mod-eq_of_lt, mul-add-mod_self_right}
 use native.Mathlib.Omega.{arith}
 use mathlib.Core.Path.{◌≡◌, refl, sym, ◌∙◌}
-use mathlib.Core.Bool.{true, false, and-false}
+use mathlib.Core.Bool.{true, false}
 use lib.Dec.{eqb, leb, ltb, leb-suc-suc}
-use borrow.Author.Tests.{le-leb, lt-leb, lt-ltb, le-ltb, ne_eqb, leb-true}
+use borrow.Author.Tests.{lt-leb, lt-ltb, le-ltb, ne_eqb, leb-true}
 use Rattle.steps.specs.Numbers.{schedule_limit}
 use Rattle.steps.specs.Table.{within}
 use Rattle.state.specs.declared.EncryptionSchedule.{EncryptionSchedule}
@@ -73,20 +73,9 @@ as_original_lem (TickTock (suc on) off) epoch =
 
 -- WHETHER A SCHEDULE'S NUMBERS are as its kind wants them, kind by kind
 module _ (kind a b : ℕ) where
-  pub ok_none : kind ≤ 1 → true ≡ schedule_ok kind a b
-  unfolding schedule_ok
-  ok_none h = rw (le-leb kind 1 h)
-
-  pub ok_nth : kind ≡ 2 → within 1 schedule_limit a ≡ schedule_ok kind a b
-  unfolding schedule_ok
-  ok_nth h = rw h
-
   pub ok_tick : kind ≡ 3 → within 1 schedule_limit (a + b) ≡ schedule_ok kind a b
   unfolding schedule_ok
   ok_tick h = rw h
-
-  pub ok_large : kind ≡ 3 → schedule_limit < a + b → false ≡ schedule_ok kind a b
-  ok_large h g = sym (sym (ok_tick h) ∙ rw (lt-leb (a + b) schedule_limit g) (and-false (leb 1 (a + b))))
 
   pub ok_other : 3 < kind → false ≡ schedule_ok kind a b
   unfolding schedule_ok

@@ -1,39 +1,17 @@
--- Laws for the code that copies and clears words and finds an epoch in the state, and what it may take for granted (`StateWords`). Assumes nothing.
-use Prim.Native.Nat.{ℕ, suc, ◌+◌, ◌*◌, ◌-◌, ◌%◌, ◌≤◌, ◌<◌}
+-- Laws for the code that finds an epoch in the state, and what it may take for granted (`StateWords`). Assumes nothing.
+use Prim.Native.Nat.{ℕ, ◌+◌, ◌*◌, ◌-◌, ◌%◌, ◌≤◌, ◌<◌}
 use mathlib.Core.Path.{◌≡◌, refl, sym, ap, ◌∙◌}
-use mathlib.Core.List.{List, ◌++◌, append-nil}
+use mathlib.Core.List.{List, ◌++◌}
 use native.Mathlib.Omega.{arith}
 use native.Mathlib.Nat.{mul-le-mul_right}
-use native.Mathlib.Numerals.{add-one}
-use lib.ListN.{length, get_or, set, take, drop, replicate, length-append, length-take, length-drop, length-replicate, length-set, get_or-replicate}
-use lib.Seq.{drop-cons, take-suc, set_at, append_snoc, length-take-le, drop-drop, take_all, drop-length, get_or-set_other}
+use lib.ListN.{length, get_or, set, take, drop, replicate, length-replicate, length-set}
+use lib.Seq.{drop-drop, get_or-set_other}
 use Rattle.steps.specs.Numbers.{node_limit, ahead_limit, last_epoch}
 use Rattle.subset.specs.Words.{epoch_length}
 use Rattle.epochwords.specs.Shape.{EpochWords}
 use Rattle.state.specs.State.{header_length, nodes_at, ahead_at, epoch_at, input_at, epochs_at, state_length, nodes, ahead, place_of, epoch_words, with_epoch, without_epoch}
 use Rattle.state.specs.Shape.{StateWords}
 use Rattle.state.proofs.Window.{Shaped, header_first, place_is, place_in, words_long, with_head, with_long}
-
--- COPYING word by word: i words are copied
-module _ (from to : List ℕ) (same : length from ≡ length to) where
-  pub copy_turn : (i : ℕ) (now : List ℕ) → now ≡ take i from ++ drop i to → i < length to → set now i (get_or from i 0) ≡ take (i + 1) from ++ drop (i + 1) to
-  copy_turn i now e h =
-      let l : i < length from = omega arith in
-      rw (e, add-one i, drop-cons to i 0 h, take-suc from i 0 l)
-      (set_at (take i from) (get_or to i 0) (drop (suc i) to) (get_or from i 0) i (length-take-le i from (omega arith))
-      ∙ sym (append_snoc (take i from) (get_or from i 0) (drop (suc i) to)))
-
-  pub copy_long : (i : ℕ) → i ≤ length to → length (take i from ++ drop i to) ≡ length to
-  copy_long i h = simp (length-append, length-take, length-drop) (omega arith)
-
-  pub copy_done : (i : ℕ) → i ≡ length to → take i from ++ drop i to ≡ from
-  copy_done i h = rw (h, drop-length to, append-nil, take_all (length to) from (omega arith))
-
--- clearing is copying zeros
-pub clear_word : (w : List ℕ) (i : ℕ) (now : List ℕ) → now ≡ take i (replicate (length w) 0) ++ drop i w → i < length w
-    → set now i 0 ≡ take (i + 1) (replicate (length w) 0) ++ drop (i + 1) w
-clear_word w i now e h =
-    ap (set now i) (sym (get_or-replicate (length w) i 0 0 h)) ∙ copy_turn (replicate (length w) 0) w (length-replicate (length w) 0) i now e h
 
 -- SIZES are small, so that the code's sums fit
 pub epoch_small : (n : ℕ) → n ≤ node_limit → epoch_length n ≤ 400

@@ -5,7 +5,7 @@ ghost use Rattle.state.specs.State.{nodes, ahead, state_length, scratch_of, head
 ghost use Rattle.state.specs.Shape.{StateWords};
 
 use crate::lengths::STATE_LENGTHS;
-use crate::schedule::{schedule_ok, used_first, used_second};
+use crate::schedule::{schedule_ok, used_numbers};
 use crate::words::{
     AHEAD_AT, EPOCH_AT, FAULTS_AT, FAULTY_AT, FIRST_NUMBER_AT, HEADER_LENGTH, INPUT_AT, KEY_AT,
     NODES_AT, OWN_AT, PROFILE_AT, SCHEDULE_AT, SECOND_NUMBER_AT, STRATEGY_AT, VACANT_AT,
@@ -53,8 +53,7 @@ fn header_in_range(state: &[u64]) -> bool
     let a = state[FIRST_NUMBER_AT];
     let b = state[SECOND_NUMBER_AT];
     let schedule = schedule_ok(kind, a, b);
-    let first = used_first(kind, a);
-    let second = used_second(kind, b);
+    let used = used_numbers(kind, a, b);
     let vacant = state[VACANT_AT] | state[VACANT_AT + 1] | state[VACANT_AT + 2];
     (state[PROFILE_AT] == 1)
         & ((1 <= n) & (n <= NODE_LIMIT))
@@ -64,8 +63,8 @@ fn header_in_range(state: &[u64]) -> bool
         & (state[KEY_AT] <= 1)
         & (state[STRATEGY_AT] <= 1)
         & schedule
-        & (a == first)
-        & (b == second)
+        & (a == used.0)
+        & (b == used.1)
         & (state[EPOCH_AT] <= LAST_EPOCH + ahead + 1)
         & (state[INPUT_AT] <= 1)
         & (state[FAULTS_AT] <= FAULT_LIMIT)
@@ -78,16 +77,14 @@ fn epochs_in_range(state: &[u64]) -> bool
     ensures { result ≡ epochs_in_range state.now (ahead state.now + 1) (epochs_at (nodes state.now)) }
 {
     let n = state[NODES_AT] as usize;
+    let start = epochs_at(n);
     let length = epoch_length(n);
     let strategy = strategy_of(state);
-    let mut left = state[AHEAD_AT] + 1;
-    let mut at = epochs_at(n);
+    let places = state[AHEAD_AT] as usize + 1;
     let mut ok = true;
-    while 0 < left {
-        let end = at + length;
-        ok = ok & epoch_in_range(&state[at..end], strategy, n);
-        at = end;
-        left -= 1;
+    for place in 0..places {
+        let at = start + place * length;
+        ok &= epoch_in_range(&state[at..at + length], strategy, n);
     }
     ok
 }

@@ -16,6 +16,7 @@ pub const EVERY_NTH_EPOCH: u64 = 2;
 pub const TICK_TOCK: u64 = 3;
 
 // The schedule of this kind with its numbers. A kind above the last reads as the last.
+#[tactic(auto, unfolding(crate::specs::Schedule::schedule_of))]
 pub fn schedule_of(kind: u64, a: u64, b: u64) -> EncryptionSchedule
     ensures { result ≡ schedule_of kind a b }
 {
@@ -29,6 +30,7 @@ pub fn schedule_of(kind: u64, a: u64, b: u64) -> EncryptionSchedule
 
 impl EncryptionSchedule {
     // Whether contributions in this epoch are encrypted.
+    #[tactic(auto, unfolding(crate::specs::Schedule::use_on_epoch))]
     pub fn use_on_epoch(self, epoch: u64) -> bool
         requires { Divides self }
         ensures { result ≡ use_on_epoch self epoch }
@@ -42,38 +44,29 @@ impl EncryptionSchedule {
     }
 }
 
-// Whether the numbers of a schedule are as its kind wants them. A sum that would be too large is not computed.
+// Whether the numbers of a schedule are as its kind wants them. A sum that is no word is too large.
+#[tactic(auto, unfolding(crate::specs::Schedule::schedule_ok))]
 pub fn schedule_ok(kind: u64, a: u64, b: u64) -> bool
     ensures { result ≡ schedule_ok kind a b }
 {
-    if kind <= NEVER {
-        return true;
+    match kind {
+        ALWAYS | NEVER => true,
+        EVERY_NTH_EPOCH => (1 <= a) & (a <= SCHEDULE_LIMIT),
+        TICK_TOCK => a
+            .checked_add(b)
+            .is_some_and(|sum| (1 <= sum) & (sum <= SCHEDULE_LIMIT)),
+        _ => false,
     }
-    if kind == EVERY_NTH_EPOCH {
-        return (1 <= a) & (a <= SCHEDULE_LIMIT);
-    }
-    if kind != TICK_TOCK {
-        return false;
-    }
-    if SCHEDULE_LIMIT < a {
-        return false;
-    }
-    if SCHEDULE_LIMIT < b {
-        return false;
-    }
-    let sum = a + b;
-    (1 <= sum) & (sum <= SCHEDULE_LIMIT)
 }
 
-// Numbers that a kind does not use are 0 in the state.
-pub fn used_first(kind: u64, a: u64) -> u64
-    ensures { result ≡ used_first kind a }
+// The numbers of a schedule as the state holds them: 0 for one that its kind does not use.
+#[tactic(auto, unfolding(crate::specs::Schedule::used_first, crate::specs::Schedule::used_second))]
+pub fn used_numbers(kind: u64, a: u64, b: u64) -> (u64, u64)
+    ensures { result ≡ (used_first kind a, used_second kind b) }
 {
-    if kind <= NEVER { 0 } else { a }
-}
-
-pub fn used_second(kind: u64, b: u64) -> u64
-    ensures { result ≡ used_second kind b }
-{
-    if kind <= EVERY_NTH_EPOCH { 0 } else { b }
+    match kind {
+        ALWAYS | NEVER => (0, 0),
+        EVERY_NTH_EPOCH => (a, 0),
+        _ => (a, b),
+    }
 }

@@ -1,5 +1,5 @@
 // The words of the state (docs/STATE.md): the header's words by name, where an epoch lives, and copying and clearing it.
-ghost use Rattle.std.specs.Prelude.{◌≡◌, ◌≤◌, length, replicate};
+ghost use Rattle.std.specs.Prelude.{◌≡◌, ◌≤◌, length};
 ghost use Rattle.steps.specs.Numbers.{node_limit};
 ghost use Rattle.subset.specs.Words.{epoch_length};
 ghost use Rattle.state.specs.Schedule.{schedule_of};
@@ -42,6 +42,7 @@ pub const FAULTS_AT: usize = 12;
 pub const VACANT_AT: usize = 13;
 
 // How many words an epoch of n nodes has.
+#[tactic(auto, using(crate::proofs::WordsCode::epoch_small))]
 pub fn epoch_length(n: usize) -> usize
     requires { n ≤ node_limit }
     ensures { result ≡ epoch_length n }
@@ -50,6 +51,7 @@ pub fn epoch_length(n: usize) -> usize
 }
 
 // Where the epochs begin in a state of n nodes.
+#[tactic(auto, unfolding(crate::specs::State::epochs_at))]
 pub fn epochs_at(n: usize) -> usize
     requires { n ≤ node_limit }
     ensures { result ≡ epochs_at n }
@@ -59,6 +61,7 @@ pub fn epochs_at(n: usize) -> usize
 }
 
 // The network as the node knows it.
+#[tactic(auto, unfolding(crate::specs::State::net_of))]
 pub fn net_of(state: &[u64]) -> NetworkInfo
     requires { header_length ≤ length state.now }
     ensures { result ≡ net_of state.now }
@@ -71,17 +74,16 @@ pub fn net_of(state: &[u64]) -> NetworkInfo
     }
 }
 
+#[tactic(auto, unfolding(crate::specs::State::strategy_of))]
 pub fn strategy_of(state: &[u64]) -> SubsetHandlingStrategy
     requires { header_length ≤ length state.now }
     ensures { result ≡ strategy_of state.now }
 {
-    if state[STRATEGY_AT] == 0 {
-        return SubsetHandlingStrategy::Incremental;
-    }
-    SubsetHandlingStrategy::AllAtEnd
+    SubsetHandlingStrategy::from(state[STRATEGY_AT])
 }
 
 // Whether contributions in this epoch are encrypted.
+#[tactic(auto, unfolding(crate::specs::State::encrypted_in))]
 pub fn encrypted_in(state: &[u64], epoch: u64) -> bool
     requires { (header_length ≤ length state.now) × Divides (schedule_of (schedule state.now) (first_number state.now) (second_number state.now)) }
     ensures { result ≡ encrypted_in state.now epoch }
@@ -106,50 +108,30 @@ pub fn place_of(state: &[u64], epoch: u64) -> usize
     epochs_at(n) + place * length
 }
 
-// Copies all words.
-pub fn copy(from: &[u64], to: &mut [u64])
-    requires { length from.now ≡ length to.old }
-    ensures { to.new ≡ from.now }
-{
-    let mut i: usize = 0;
-    while i < to.len() {
-        to[i] = from[i];
-        i += 1;
-    }
-}
-
-// Makes all words zero.
-pub fn clear(words: &mut [u64])
-    ensures { words.new ≡ replicate (length words.old) 0 }
-{
-    let mut i: usize = 0;
-    while i < words.len() {
-        words[i] = 0;
-        i += 1;
-    }
-}
-
 // Copies the words of an epoch out of the state.
+#[tactic(auto, using(crate::proofs::WordsCode::place_inside, crate::proofs::WordsCode::state_small))]
 pub fn load(state: &[u64], epoch: u64, words: &mut [u64])
     requires { StateWords state.now × (length words.old ≡ epoch_length (nodes state.now)) }
     ensures { words.new ≡ epoch_words state.now epoch }
 {
     let at = place_of(state, epoch);
     let end = at + words.len();
-    copy(&state[at..end], words);
+    words.copy_from_slice(&state[at..end]);
 }
 
 // Copies the words of an epoch to their place in the state.
+#[tactic(auto, using(crate::proofs::WordsCode::place_inside, crate::proofs::WordsCode::state_small))]
 pub fn store(state: &mut [u64], epoch: u64, words: &[u64])
     requires { StateWords state.old × (length words.now ≡ epoch_length (nodes state.old)) }
     ensures { state.new ≡ with_epoch state.old epoch words.now }
 {
     let at = place_of(state, epoch);
     let end = at + words.len();
-    copy(words, &mut state[at..end]);
+    state[at..end].copy_from_slice(words);
 }
 
 // No epoch lives at the place of this one any more.
+#[tactic(auto, using(crate::proofs::WordsCode::place_inside, crate::proofs::WordsCode::state_small))]
 pub fn clear_epoch(state: &mut [u64], epoch: u64)
     requires { StateWords state.old }
     ensures { state.new ≡ without_epoch state.old epoch }
@@ -157,5 +139,5 @@ pub fn clear_epoch(state: &mut [u64], epoch: u64)
     let n = state[NODES_AT] as usize;
     let at = place_of(state, epoch);
     let end = at + epoch_length(n);
-    clear(&mut state[at..end]);
+    state[at..end].fill(0);
 }

@@ -3,7 +3,8 @@ use Prim.Native.Nat.{ℕ, suc, ◌+◌, ◌-◌, ◌*◌, ◌%◌, ◌^◌, ◌�
 use native.Mathlib.Omega.{arith}
 use native.Mathlib.Nat.{mul-le-mul_right, suc-mul}
 use mathlib.Core.Path.{◌≡◌, ◌∙◌}
-use mathlib.Core.Bool.{Bool, cond}
+use mathlib.Core.Bool.{Bool, true, false, cond}
+use mir.Val.{bool_byte}
 use lib.Pow.{shl_exact, pow_mono}
 use Rattle.steps.specs.Bits.{bits_from}
 use Rattle.subset.proofs.Bits.{bits_below}
@@ -12,12 +13,10 @@ use Rattle.subset.proofs.Bits.{bits_below}
 pub shifted : (i : ℕ) → i < 64 → 1 * 2 ^ i % 18446744073709551616 ≡ 2 ^ i
 shifted i h = shl_exact 1 i 64 (omega arith) (omega arith) ∙ omega arith
 
--- PLACES are small
-pub place_small : (n p : ℕ) → n ≤ 16 → p < n → p * (8 + n) ≤ 384
-place_small n p few h = let l : p ≤ 16 = omega arith in omega (arith, mul-le-mul_right (8 + n) l)
-
-pub before_end : (n p size : ℕ) → p < n → 1 ≤ size → p * size < n * size
-before_end n p size h l = omega (arith, mul-le-mul_right size h, suc-mul p size)
+-- a bit, as the code makes it of a test
+pub bit_of : (r p : ℕ) (t u : Bool) → r ≡ bool_byte t → t ≡ u → p < 64 → r * 2 ^ p % 18446744073709551616 ≡ cond u (2 ^ p) 0
+bit_of r p true u e f h = rw (e, ← f) (shifted p h)
+bit_of r p false u e f h = rw (e, ← f) (omega arith)
 
 -- A WORD MADE OF BITS, one bit more
 module _ (is : ℕ → Bool) (n p : ℕ) where

@@ -49,65 +49,67 @@ pub fn record_at(n: usize, p: usize, field: usize) -> usize
     RECORDS_AT + p * (RECORD_FIELDS + n) + field
 }
 
-// A tag above the last reads as the last.
-fn proposal_of(tag: u64, value: u64) -> ProposalState
-    ensures { result ≡ proposal_of tag value }
-{
-    match tag {
-        TAG_ONGOING => ProposalState::Ongoing,
-        TAG_HAS_VALUE => ProposalState::HasValue(value),
-        TAG_ACCEPTED => ProposalState::Accepted,
-        TAG_COMPLETE_FALSE => ProposalState::Complete(false),
-        _ => ProposalState::Complete(true),
+// The two words of a proposal.
+#[derive(Clone, Copy)]
+struct Stored {
+    tag: u64,
+    value: u64,
+}
+
+impl From<Stored> for ProposalState {
+    ghost from_gives = { λ stored state. state ≡ proposal_of stored.tag stored.value };
+
+    // A tag above the last reads as the last.
+    #[tactic(auto, unfolding(crate::specs::Words::proposal_of))]
+    fn from(stored: Stored) -> ProposalState {
+        match stored.tag {
+            TAG_ONGOING => ProposalState::Ongoing,
+            TAG_HAS_VALUE => ProposalState::HasValue(stored.value),
+            TAG_ACCEPTED => ProposalState::Accepted,
+            TAG_COMPLETE_FALSE => ProposalState::Complete(false),
+            _ => ProposalState::Complete(true),
+        }
     }
 }
 
-fn tag_of(state: ProposalState) -> u64
-    ensures { result ≡ tag_of state }
-{
-    match state {
-        ProposalState::Ongoing => TAG_ONGOING,
-        ProposalState::HasValue(_) => TAG_HAS_VALUE,
-        ProposalState::Accepted => TAG_ACCEPTED,
-        ProposalState::Complete(accepted) => if accepted {
-            TAG_COMPLETE_TRUE
-        } else {
-            TAG_COMPLETE_FALSE
-        },
+impl From<ProposalState> for Stored {
+    ghost from_gives = { λ state stored. (stored.tag ≡ tag_of state) × (stored.value ≡ value_of state) };
+
+    #[tactic(auto, unfolding(crate::specs::Words::tag_of, crate::specs::Words::value_of))]
+    fn from(state: ProposalState) -> Stored {
+        let (tag, value) = match state {
+            ProposalState::Ongoing => (TAG_ONGOING, 0),
+            ProposalState::HasValue(value) => (TAG_HAS_VALUE, value),
+            ProposalState::Accepted => (TAG_ACCEPTED, 0),
+            ProposalState::Complete(false) => (TAG_COMPLETE_FALSE, 0),
+            ProposalState::Complete(true) => (TAG_COMPLETE_TRUE, 0),
+        };
+        Stored { tag, value }
     }
 }
 
-fn value_of(state: ProposalState) -> u64
-    ensures { result ≡ value_of state }
-{
-    match state {
-        ProposalState::Ongoing => 0,
-        ProposalState::HasValue(value) => value,
-        ProposalState::Accepted => 0,
-        ProposalState::Complete(_) => 0,
-    }
-}
-
+#[tactic(auto, unfolding(crate::specs::Words::load_proposal))]
 pub fn load_proposal(epoch: &[u64], n: usize, p: usize) -> ProposalState
     requires { EpochWords n epoch.now × (p < n) }
     ensures { result ≡ load_proposal n epoch.now p }
 {
-    let tag = record_at(n, p, PROPOSAL_FIELD);
-    let value = record_at(n, p, VALUE_FIELD);
-    proposal_of(epoch[tag], epoch[value])
+    let tag = epoch[record_at(n, p, PROPOSAL_FIELD)];
+    let value = epoch[record_at(n, p, VALUE_FIELD)];
+    ProposalState::from(Stored { tag, value })
 }
 
+#[tactic(auto, unfolding(crate::specs::Words::store_proposal))]
 pub fn store_proposal(epoch: &mut [u64], n: usize, p: usize, state: ProposalState)
     requires { EpochWords n epoch.old × (p < n) }
     ensures { epoch.new ≡ store_proposal n epoch.old p state }
 {
-    let tag = record_at(n, p, PROPOSAL_FIELD);
-    let value = record_at(n, p, VALUE_FIELD);
-    epoch[tag] = tag_of(state);
-    epoch[value] = value_of(state);
+    let stored = Stored::from(state);
+    epoch[record_at(n, p, PROPOSAL_FIELD)] = stored.tag;
+    epoch[record_at(n, p, VALUE_FIELD)] = stored.value;
 }
 
 // The contribution of proposer p joins the list, if there is room for it.
+#[tactic(auto, using(crate::proofs::ProposalStored::within_epoch), unfolding(crate::specs::Words::add_contribution))]
 pub fn add_contribution(epoch: &mut [u64], n: usize, p: usize, value: u64)
     requires { EpochWords n epoch.old × (p < n) }
     ensures { epoch.new ≡ add_contribution n epoch.old p value }
@@ -123,24 +125,11 @@ pub fn add_contribution(epoch: &mut [u64], n: usize, p: usize, value: u64)
 }
 
 // Whether a tag is in a set of tags.
+#[tactic(auto, unfolding(crate::specs::Bits::tag_in, steps::specs::Bits::has_bit))]
 fn tag_in(tags: u64, tag: u64) -> bool
     ensures { result ≡ tag_in tags tag }
 {
-    if tag < TAG_COMPLETE_TRUE {
-        return (tags >> tag) % 2 == 1;
-    }
-    (tags >> TAG_COMPLETE_TRUE) % 2 == 1
-}
-
-// Bit p of a word, if it is to be set.
-fn bit(set: bool, p: usize) -> u64
-    requires { p < 64 }
-    ensures { result ≡ cond set (2 ^ p) 0 }
-{
-    if set {
-        return 1 << p;
-    }
-    0
+    (tags >> tag.min(TAG_COMPLETE_TRUE)) % 2 == 1
 }
 
 // Of n proposals, in records of `size` words each, those whose tag is in the set.
@@ -149,11 +138,9 @@ pub fn proposals_in(epoch: &[u64], size: usize, n: usize, tags: u64) -> u64
     ensures { result ≡ proposals_in size tags n epoch.now }
 {
     let mut bits: u64 = 0;
-    let mut p: usize = 0;
-    while p < n {
-        let at = RECORDS_AT + p * size + PROPOSAL_FIELD;
-        bits += bit(tag_in(tags, epoch[at]), p);
-        p += 1;
+    for p in 0..n {
+        let tag = epoch[RECORDS_AT + p * size + PROPOSAL_FIELD];
+        bits += u64::from(tag_in(tags, tag)) << p;
     }
     bits
 }

@@ -1,10 +1,12 @@
 -- Laws for the code that writes the state. Assumes nothing.
-use Prim.Native.Nat.{ℕ, suc, ◌+◌, ◌<◌}
-use mathlib.Core.Path.{◌≡◌, refl}
+use Prim.Native.Nat.{ℕ, suc, ◌+◌, ◌-◌, ◌≤◌, ◌<◌, min}
+use mathlib.Core.Path.{◌≡◌, refl, sym}
+use mathlib.Core.Bool.{Bool, true, false}
 use mathlib.Core.List.{List}
 use native.Mathlib.Omega.{arith}
 use lib.Seq.{get_or-set_other}
-use borrow.Author.Tests.{lt-ltb}
+use lib.Dec.{ltb}
+use borrow.Author.Tests.{lt-ltb, ltb-true, ltb-false}
 use Rattle.state.specs.State.{nodes, nodes_at, input_at, without_epoch}
 use Rattle.state.specs.Shape.{StateWords}
 use Rattle.state.proofs.WordsCode.{input_kept}
@@ -12,16 +14,23 @@ use Rattle.work.specs.declared.honey_badger.Call.{Call}
 use Rattle.work.specs.declared.honey_badger.Call.TheVariants.{Propose, Message}
 use Rattle.work.specs.HoneyBadger.{clear_below}
 use Rattle.work.specs.Shape.{call_base}
+use Rattle.work.proofs.ClearingIsSkipping.{clear_none}
 
 -- CLEARING: one epoch more, or none left
-module _ (target k e : ℕ) (w : List ℕ) where
-  pub clear_turn : (m : ℕ) → k ≡ suc m → e < target → clear_below target m (e + 1) (without_epoch w e) ≡ clear_below target k e w
+module _ (target behind e : ℕ) (w : List ℕ) where
+  pub clear_turn : e < min target behind → clear_below target (behind - (e + 1)) (e + 1) (without_epoch w e) ≡ clear_below target (behind - e) e w
   unfolding clear_below
-  clear_turn m z h = rw (z, clear_below, lt-ltb e target h)
+  clear_turn h =
+      let z : behind - e ≡ suc (behind - (e + 1)) = omega arith in
+      rw (z, clear_below, lt-ltb e target (omega arith))
 
-  pub clear_over : k ≡ 0 → w ≡ clear_below target k e w
+  pub clear_over : min target behind ≤ e → w ≡ clear_below target (behind - e) e w
   unfolding clear_below
-  clear_over z = rw z
+  clear_over h = go (ltb e target) refl
+    where
+      go : (x : Bool) → ltb e target ≡ x → w ≡ clear_below target (behind - e) e w
+      go true t = let z : behind - e ≡ 0 = omega (arith, ltb-true e target t) in rw z
+      go false f = sym (clear_none target (behind - e) e w (ltb-false e target f))
 
 -- WHAT THE COMMIT WRITES ON is still a state, and of as many nodes
 pub base_kept : (call : Call) (w : List ℕ) → StateWords w → StateWords (call_base call w)

@@ -12,23 +12,20 @@ use state::words::{AHEAD_AT, EPOCH_AT, FAULTS_AT, INPUT_AT, clear_epoch, store};
 use steps::numbers::FAULT_LIMIT;
 
 // Clears the epochs from the current one on that are below the target: at most as many as there are places.
+#[tactic(auto, using(crate::proofs::CommitCode::clear_over))]
 fn clear_below(state: &mut [u64], target: u64)
     requires { StateWords state.old }
     ensures { state.new ≡ clear_below target (ahead state.old + 1) (current_epoch state.old) state.old }
 {
-    let mut left = state[AHEAD_AT] + 1;
-    let mut epoch = state[EPOCH_AT];
-    while 0 < left {
-        if target <= epoch {
-            return;
-        }
+    let current = state[EPOCH_AT];
+    let behind = current + state[AHEAD_AT] + 1;
+    for epoch in current..target.min(behind) {
         clear_epoch(state, epoch);
-        epoch += 1;
-        left -= 1;
     }
 }
 
 // `skip_to_epoch`, without counting epochs one by one.
+#[tactic(auto, unfolding(crate::specs::HoneyBadger::skip_to_epoch))]
 pub fn skip_to_epoch(state: &mut [u64], target: u64)
     requires { StateWords state.old }
     ensures { state.new ≡ skip_to_epoch target state.old }
@@ -65,18 +62,12 @@ pub fn commit(state: &mut [u64], call: Call, epoch: u64, words: &[u64], next: u6
 }
 
 // Adds to the fault count, which stops at its limit.
+#[tactic(auto, unfolding(crate::specs::Shape::count_more))]
 pub fn count_faults(state: &mut [u64], count: usize)
     requires { header_length ≤ length state.old }
     ensures { state.new ≡ count_more state.old count }
 {
-    let old = state[FAULTS_AT];
-    if FAULT_LIMIT < old {
-        state[FAULTS_AT] = FAULT_LIMIT;
-        return;
-    }
-    if FAULT_LIMIT - old < count as u64 {
-        state[FAULTS_AT] = FAULT_LIMIT;
-        return;
-    }
-    state[FAULTS_AT] = old + count as u64;
+    state[FAULTS_AT] = state[FAULTS_AT]
+        .saturating_add(count as u64)
+        .min(FAULT_LIMIT);
 }

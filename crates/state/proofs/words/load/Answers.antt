@@ -1,21 +1,7 @@
 -- `load` meets its contract: a part of the state is copied. Assumes nothing.
-use mathlib.Core.Path.{sym, ap, ◌∙◌}
-use native.Mathlib.Omega.{arith}
-use lib.ListN.{length}
-use Rattle.state.proofs.WordsCode.{place_inside, state_small, part_words, words_epoch}
+use mathlib.Core.Path.{◌∙◌}
+use Rattle.state.proofs.WordsCode.{part_words}
 use Rattle.state.proofs.words.load.Goals as goal
 
-pub overflow_add-end : goal.overflow_add-end
-overflow_add-end c = omega (arith, place_inside c.args.state.now c.requires.0 c.args.epoch, c.place_of-at.ensures, state_small c.args.state.now c.requires.0, c.requires.1)
-
-pub offset_bounds-state-at : goal.offset_bounds-state-at
-offset_bounds-state-at c = omega (arith, place_inside c.args.state.now c.requires.0 c.args.epoch, c.place_of-at.ensures, state_small c.args.state.now c.requires.0, c.requires.1)
-
-pub slice_bounds-copy-end : goal.slice_bounds-copy-end
-slice_bounds-copy-end c = omega (arith, place_inside c.args.state.now c.requires.0 c.args.epoch, c.place_of-at.ensures, state_small c.args.state.now c.requires.0, c.requires.1)
-
-pub copy-requires : goal.copy-requires
-copy-requires c = ap length (part_words c.args.state.now c.args.epoch c.place_of-at.result _ c.place_of-at.ensures c.requires.1) ∙ (words_epoch c.args.state.now c.requires.0 c.args.epoch).long ∙ sym c.requires.1
-
 pub returns : goal.returns
-returns c = c.copy.ensures ∙ (part_words c.args.state.now c.args.epoch c.place_of-at.result _ c.place_of-at.ensures c.requires.1)
+returns c = c.copy_from_slice.ensures.after ∙ (part_words c.args.state.now c.args.epoch c.place_of-at.result _ c.place_of-at.ensures c.requires.1)
