@@ -18,8 +18,26 @@ use Rattle.state.proofs.Bools.{never, and_right}
 use Rattle.work.specs.declared.honey_badger.Call.TheVariants.{Propose, Message}
 use Rattle.work.specs.HoneyBadger.{propose, handle_message}
 use Rattle.calls.specs.Calls.{After, after, zeroed, conclude, content_ok, item_ok, content_of, propose_after, propose_call, message_call}
+use Rattle.calls.specs.declared.refusal.Refusal.{Refusal}
+use Rattle.calls.specs.declared.refusal.Refusal.TheVariants.{NumbersOutOfRange, WrongStateLength, NotAState, ScratchTooShort, AnswersMalformed, EpochTooHigh, MessageMalformed, AnswerNotNext, AnswersUnread, StepTableTooShort, UnknownSender, TargetTooHigh}
+use Rattle.calls.specs.Refusals.{refusal_number}
 use Rattle.calls.specs.Checks.{then_check, first_checks, epoch_check, message_check, propose_checks, message_checks, leaves_scratch, after_checks}
 use Rattle.calls.specs.Shape.{Callable}
+
+-- no refusal has the number of success
+pub no_success : (r : Refusal) → refusal_number r ≡ 0 → ⊥
+no_success NumbersOutOfRange e = omega arith
+no_success WrongStateLength e = omega arith
+no_success NotAState e = omega arith
+no_success ScratchTooShort e = omega arith
+no_success AnswersMalformed e = omega arith
+no_success EpochTooHigh e = omega arith
+no_success MessageMalformed e = omega arith
+no_success AnswerNotNext e = omega arith
+no_success AnswersUnread e = omega arith
+no_success StepTableTooShort e = omega arith
+no_success UnknownSender e = omega arith
+no_success TargetTooHigh e = omega arith
 
 -- TWO CHECKS, one after the other
 module _ (a b : ℕ) where
@@ -27,9 +45,9 @@ module _ (a b : ℕ) where
   unfolding then_check
   then_passed k z e = rw z e
 
-  pub then_turned : (k : ℕ) → k ≡ a → (k ≡ 0 → ⊥) → k ≡ then_check a b
+  pub then_refused : (r : Refusal) → refusal_number r ≡ a → refusal_number r ≡ then_check a b
   unfolding then_check
-  then_turned k e h = rw (← e, ne_eqb k 0 h)
+  then_refused r e = rw (← e, ne_eqb (refusal_number r) 0 (no_success r))
 
   -- where both pass
   pub then_both : then_check a b ≡ 0 → (a ≡ 0) × (b ≡ 0)
