@@ -233,7 +233,7 @@ module _ (state scratch step : List ℕ) (run : After) {call : After} {checks : 
   by_reply = ap (λ k. after_checks k state scratch step run) e ∙ sym is
 
   -- 3 and 4
-  pub ends_first : leaves_scratch r ≡ true → after r state scratch step ≡ call
+  ends_first : leaves_scratch r ≡ true → after r state scratch step ≡ call
   unfolding after_checks
   ends_first t = go (eqb r 0) refl ∙ by_reply
     where
@@ -242,13 +242,23 @@ module _ (state scratch step : List ℕ) (run : After) {call : After} {checks : 
       go false z = rw t
 
   -- the other checks
-  pub ends_turned : leaves_scratch r ≡ false → (r ≡ 0 → ⊥) → after r state (zeroed state scratch) step ≡ call
+  ends_turned : leaves_scratch r ≡ false → (r ≡ 0 → ⊥) → after r state (zeroed state scratch) step ≡ call
   unfolding after_checks
   ends_turned t n = rw (t, ne_eqb r 0 n) at by_reply
 
   pub ends_run : r ≡ 0 → run ≡ call
   unfolding after_checks
   ends_run z = rw z at by_reply
+
+-- turned down, with scratch as the call leaves it
+module _ (state scratch step : List ℕ) (run : After) {call : After} {checks : ℕ} (is : call ≡ after_checks checks state scratch step run) (r : Refusal) (e : refusal_number r ≡ checks) where
+  pub ends_refused : (x : List ℕ) → (leaves_scratch (refusal_number r) ≡ true → x ≡ scratch) → (leaves_scratch (refusal_number r) ≡ false → x ≡ zeroed state scratch)
+      → after (refusal_number r) state x step ≡ call
+  ends_refused x left clear = go (leaves_scratch (refusal_number r)) refl
+    where
+      go : (t : Bool) → leaves_scratch (refusal_number r) ≡ t → after (refusal_number r) state x step ≡ call
+      go true t = rw (left t) (ends_first state scratch step run is (refusal_number r) e t)
+      go false t = rw (clear t) (ends_turned state scratch step run is (refusal_number r) e t (no_success r))
 
 -- SCRATCH: its first words cleared, k of them
 pub cleared : (state scratch ys : List ℕ) (k : ℕ) → k ≡ scratch_of state → k ≤ length scratch → ys ≡ replicate (length (take k scratch)) 0
