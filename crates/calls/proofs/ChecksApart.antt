@@ -18,8 +18,26 @@ use Rattle.state.proofs.Bools.{never, and_right}
 use Rattle.work.specs.declared.honey_badger.Call.TheVariants.{Propose, Message}
 use Rattle.work.specs.HoneyBadger.{propose, handle_message}
 use Rattle.calls.specs.Calls.{After, after, zeroed, conclude, content_ok, item_ok, content_of, propose_after, propose_call, message_call}
+use Rattle.calls.specs.declared.refusal.Refusal.{Refusal}
+use Rattle.calls.specs.declared.refusal.Refusal.TheVariants.{NumbersOutOfRange, WrongStateLength, NotAState, ScratchTooShort, AnswersMalformed, EpochTooHigh, MessageMalformed, AnswerNotNext, AnswersUnread, StepTableTooShort, UnknownSender, TargetTooHigh}
+use Rattle.calls.specs.Refusals.{refusal_number}
 use Rattle.calls.specs.Checks.{then_check, first_checks, epoch_check, message_check, propose_checks, message_checks, leaves_scratch, after_checks}
 use Rattle.calls.specs.Shape.{Callable}
+
+-- no refusal has the number of success
+pub no_success : (r : Refusal) → refusal_number r ≡ 0 → ⊥
+no_success NumbersOutOfRange e = omega arith
+no_success WrongStateLength e = omega arith
+no_success NotAState e = omega arith
+no_success ScratchTooShort e = omega arith
+no_success AnswersMalformed e = omega arith
+no_success EpochTooHigh e = omega arith
+no_success MessageMalformed e = omega arith
+no_success AnswerNotNext e = omega arith
+no_success AnswersUnread e = omega arith
+no_success StepTableTooShort e = omega arith
+no_success UnknownSender e = omega arith
+no_success TargetTooHigh e = omega arith
 
 -- TWO CHECKS, one after the other
 module _ (a b : ℕ) where
@@ -27,9 +45,9 @@ module _ (a b : ℕ) where
   unfolding then_check
   then_passed k z e = rw z e
 
-  pub then_turned : (k : ℕ) → k ≡ a → (k ≡ 0 → ⊥) → k ≡ then_check a b
+  pub then_refused : (r : Refusal) → refusal_number r ≡ a → refusal_number r ≡ then_check a b
   unfolding then_check
-  then_turned k e h = rw (← e, ne_eqb k 0 h)
+  then_refused r e = rw (← e, ne_eqb (refusal_number r) 0 (no_success r))
 
   -- where both pass
   pub then_both : then_check a b ≡ 0 → (a ≡ 0) × (b ≡ 0)
@@ -215,7 +233,7 @@ module _ (state scratch step : List ℕ) (run : After) {call : After} {checks : 
   by_reply = ap (λ k. after_checks k state scratch step run) e ∙ sym is
 
   -- 3 and 4
-  pub ends_first : leaves_scratch r ≡ true → after r state scratch step ≡ call
+  ends_first : leaves_scratch r ≡ true → after r state scratch step ≡ call
   unfolding after_checks
   ends_first t = go (eqb r 0) refl ∙ by_reply
     where
@@ -224,13 +242,23 @@ module _ (state scratch step : List ℕ) (run : After) {call : After} {checks : 
       go false z = rw t
 
   -- the other checks
-  pub ends_turned : leaves_scratch r ≡ false → (r ≡ 0 → ⊥) → after r state (zeroed state scratch) step ≡ call
+  ends_turned : leaves_scratch r ≡ false → (r ≡ 0 → ⊥) → after r state (zeroed state scratch) step ≡ call
   unfolding after_checks
   ends_turned t n = rw (t, ne_eqb r 0 n) at by_reply
 
   pub ends_run : r ≡ 0 → run ≡ call
   unfolding after_checks
   ends_run z = rw z at by_reply
+
+-- turned down, with scratch as the call leaves it
+module _ (state scratch step : List ℕ) (run : After) {call : After} {checks : ℕ} (is : call ≡ after_checks checks state scratch step run) (r : Refusal) (e : refusal_number r ≡ checks) where
+  pub ends_refused : (x : List ℕ) → (leaves_scratch (refusal_number r) ≡ true → x ≡ scratch) → (leaves_scratch (refusal_number r) ≡ false → x ≡ zeroed state scratch)
+      → after (refusal_number r) state x step ≡ call
+  ends_refused x left clear = go (leaves_scratch (refusal_number r)) refl
+    where
+      go : (t : Bool) → leaves_scratch (refusal_number r) ≡ t → after (refusal_number r) state x step ≡ call
+      go true t = rw (left t) (ends_first state scratch step run is (refusal_number r) e t)
+      go false t = rw (clear t) (ends_turned state scratch step run is (refusal_number r) e t (no_success r))
 
 -- SCRATCH: its first words cleared, k of them
 pub cleared : (state scratch ys : List ℕ) (k : ℕ) → k ≡ scratch_of state → k ≤ length scratch → ys ≡ replicate (length (take k scratch)) 0

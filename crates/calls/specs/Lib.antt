@@ -1,4 +1,5 @@
 pub mod Calls
+pub mod Refusals
 pub mod Checks
 pub mod Shape
 pub mod Opened

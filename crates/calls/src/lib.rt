@@ -4,3 +4,4 @@
 pub mod call;
 pub mod checks;
 pub mod operations;
+pub mod refusal;

@@ -5,3 +5,4 @@ pub mod FaultCount
 pub mod Received
 pub mod BenchCases
 pub mod FurtherCases
+pub mod QueryCode

@@ -1,13 +1,16 @@
 // Create: the ten numbers in their ranges, and the state before any call.
 ghost use Rattle.std.specs.Prelude.{◌≡◌, length};
 ghost use Rattle.state.specs.State.{state_length};
-ghost use Rattle.engine.specs.Create.{numbers_ok, created};
+ghost use Rattle.calls.specs.Refusals.{reply_of};
+ghost use Rattle.engine.specs.Create.{numbers_ok, created, create_reply, create_state};
 ghost use Rattle.engine.specs.Shape.{numbers_of};
 
-use state::schedule::{schedule_ok, used_first, used_second};
+use calls::refusal::Refusal;
+use state::range::state_length;
+use state::schedule::{schedule_ok, used_numbers};
 use state::words::{
     AHEAD_AT, EPOCH_AT, FAULTY_AT, FIRST_NUMBER_AT, KEY_AT, NODES_AT, OWN_AT, PROFILE_AT,
-    SCHEDULE_AT, SECOND_NUMBER_AT, STRATEGY_AT, clear,
+    SCHEDULE_AT, SECOND_NUMBER_AT, STRATEGY_AT,
 };
 use steps::numbers::{AHEAD_LIMIT, LAST_EPOCH, NODE_LIMIT};
 
@@ -51,7 +54,8 @@ impl Numbers {
         requires { length state.old ≡ state_length self.«nodes» self.«ahead» }
         ensures { state.new ≡ created (numbers_of self) }
     {
-        clear(state);
+        let used = used_numbers(self.schedule, self.first, self.second);
+        state.fill(0);
         state[PROFILE_AT] = 1;
         state[NODES_AT] = self.nodes;
         state[FAULTY_AT] = self.faulty;
@@ -60,8 +64,23 @@ impl Numbers {
         state[KEY_AT] = self.key;
         state[STRATEGY_AT] = self.strategy;
         state[SCHEDULE_AT] = self.schedule;
-        state[FIRST_NUMBER_AT] = used_first(self.schedule, self.first);
-        state[SECOND_NUMBER_AT] = used_second(self.schedule, self.second);
+        state[FIRST_NUMBER_AT] = used.0;
+        state[SECOND_NUMBER_AT] = used.1;
         state[EPOCH_AT] = self.epoch;
+    }
+
+    // Makes the words a state: 1 for numbers out of range, 2 for another length.
+    #[tactic(auto, using(crate::proofs::CreateCode::numbers_on_sheet), unfolding(crate::specs::Create::create_reply, crate::specs::Create::create_state))]
+    pub(crate) fn create(self, state: &mut [u64]) -> Result<(), Refusal>
+        ensures { (reply_of result ≡ create_reply (numbers_of self) state.old) × (state.new ≡ create_state (numbers_of self) state.old) }
+    {
+        if !self.are_ok() {
+            return Err(Refusal::NumbersOutOfRange);
+        }
+        if state.len() != state_length(self.nodes as usize, self.ahead as usize) {
+            return Err(Refusal::WrongStateLength);
+        }
+        self.write(state);
+        Ok(())
     }
 }

@@ -2,8 +2,13 @@
 // requires anything of what it is lent. crates/engine_c exports the eight functions to C.
 #![tactic(auto)]
 
-ghost use Rattle.std.specs.Prelude.{◌≡◌};
-ghost use Rattle.calls.specs.Calls.{after, propose_call, message_call, skip_reply, skip_state, query_reply, current_epoch_result, has_input_result, received_proposals_result, fault_count_result};
+ghost use Rattle.std.specs.Prelude.{◌≡◌, ◌≤◌, true, false, length};
+ghost use Rattle.std.specs.Fn.{FnOnceReturnsAt};
+ghost use Rattle.state.specs.State.{scratch_of, state_ok};
+ghost use Rattle.state.specs.Shape.{StateWords};
+ghost use Rattle.calls.specs.Calls.{after, zeroed, propose_call, message_call, skip_reply, skip_state, query_reply, current_epoch_result, has_input_result, received_proposals_result, fault_count_result};
+ghost use Rattle.calls.specs.Refusals.{refusal_number, reply_of};
+ghost use Rattle.calls.specs.Checks.{leaves_scratch};
 ghost use Rattle.engine.specs.Create.{numbers, create_reply, create_state};
 
 pub mod create;
@@ -11,14 +16,23 @@ pub mod queries;
 
 use crate::create::Numbers;
 use crate::queries::{has_input, received_proposals};
-use calls::checks::{content_of, leaves_scratch, message_checks, propose_checks};
+use calls::checks::{content_of, message_checks, propose_checks};
 use calls::operations::{handle_message, propose};
-use state::range::{scratch_length, state_length, state_ok};
-use state::words::{EPOCH_AT, FAULTS_AT, clear};
-use steps::numbers::{
-    LAST_EPOCH, NOT_A_STATE, NUMBERS_OUT_OF_RANGE, SUCCESS, TARGET_TOO_HIGH, WRONG_STATE_LENGTH,
-};
+use calls::refusal::Refusal;
+use state::range::{scratch_length, state_ok};
+use state::words::{EPOCH_AT, FAULTS_AT};
+use steps::numbers::{LAST_EPOCH, SUCCESS};
 use work::commit::skip_to_epoch;
+
+// The interface's number for what a call came to.
+fn reply(outcome: Result<(), Refusal>) -> u64
+    ensures { result ≡ reply_of outcome }
+{
+    match outcome {
+        Ok(()) => SUCCESS,
+        Err(refusal) => u64::from(refusal),
+    }
+}
 
 // Makes the words a state: reply 0, 1 for numbers out of range, 2 for another length.
 pub fn hb_create(
@@ -49,14 +63,22 @@ pub fn hb_create(
         first: number_a,
         second: number_b,
     };
-    if !numbers.are_ok() {
-        return NUMBERS_OUT_OF_RANGE;
+    reply(numbers.create(state))
+}
+
+// The reply of a call that its checks turned down. Scratch is zero afterwards, unless the reply is 3 or 4.
+fn turned_down(refusal: Refusal, state: &[u64], scratch: &mut [u64]) -> u64
+    requires { leaves_scratch (refusal_number refusal) ≡ false → StateWords state.now × (scratch_of state.now ≤ length scratch.old) }
+    ensures reply { result ≡ refusal_number refusal }
+    ensures left { leaves_scratch (refusal_number refusal) ≡ true → scratch.new ≡ scratch.old }
+    ensures cleared { leaves_scratch (refusal_number refusal) ≡ false → scratch.new ≡ zeroed state.now scratch.old }
+{
+    if refusal.leaves_scratch() {
+        return u64::from(refusal);
     }
-    if state.len() != state_length(n as usize, look_ahead as usize) {
-        return WRONG_STATE_LENGTH;
-    }
-    numbers.write(state);
-    SUCCESS
+    let length = scratch_length(state);
+    scratch[..length].fill(0);
+    u64::from(refusal)
 }
 
 // Proposes in the current epoch. Scratch is zero afterwards, unless the reply is 3 or 4.
@@ -64,17 +86,12 @@ pub fn hb_propose(state: &mut [u64], scratch: &mut [u64], answers: &[u64], step:
     ensures { after result state.new scratch.new step.new
         ≡ propose_call state.old scratch.old answers.now step.old }
 {
-    let checked = propose_checks(state, scratch.len(), answers);
-    if leaves_scratch(checked) {
-        return checked;
+    if let Err(refusal) = propose_checks(state, scratch.len(), answers) {
+        return turned_down(refusal, state, scratch);
     }
     let length = scratch_length(state);
-    if checked != SUCCESS {
-        clear(&mut scratch[..length]);
-        return checked;
-    }
     let reply = propose(state, scratch, answers, step);
-    clear(&mut scratch[..length]);
+    scratch[..length].fill(0);
     reply
 }
 
@@ -102,17 +119,13 @@ pub fn hb_message(
         scratch.len(),
         answers,
     );
-    if leaves_scratch(checked) {
-        return checked;
+    if let Err(refusal) = checked {
+        return turned_down(refusal, state, scratch);
     }
     let length = scratch_length(state);
-    if checked != SUCCESS {
-        clear(&mut scratch[..length]);
-        return checked;
-    }
     let c = content_of(content, item);
     let reply = handle_message(sender, epoch, proposer, c, state, scratch, answers, step);
-    clear(&mut scratch[..length]);
+    scratch[..length].fill(0);
     reply
 }
 
@@ -120,57 +133,63 @@ pub fn hb_message(
 pub fn hb_skip(target: u64, state: &mut [u64]) -> u64
     ensures { (result ≡ skip_reply target state.old) × (state.new ≡ skip_state target state.old) }
 {
+    reply(skip(target, state))
+}
+
+#[tactic(auto, unfolding(calls::specs::Calls::skip_reply, calls::specs::Calls::skip_state))]
+fn skip(target: u64, state: &mut [u64]) -> Result<(), Refusal>
+    ensures { (reply_of result ≡ skip_reply target state.old) × (state.new ≡ skip_state target state.old) }
+{
     if !state_ok(state) {
-        return NOT_A_STATE;
+        return Err(Refusal::NotAState);
     }
     if LAST_EPOCH < target {
-        return TARGET_TOO_HIGH;
+        return Err(Refusal::TargetTooHigh);
     }
     skip_to_epoch(state, target);
-    SUCCESS
+    Ok(())
+}
+
+// A query: what is asked of a state, or 3 with the result untouched.
+#[tactic(auto, unfolding(calls::specs::Calls::query_reply))]
+fn query<F: FnOnce(&[u64]) -> u64>(state: &[u64], res: &mut u64, ask: F) -> Result<(), Refusal>
+    requires { state_ok state.now ≡ true → F.pre ask state }
+    ensures reply { reply_of result ≡ query_reply state.now }
+    ensures told { state_ok state.now ≡ true → FnOnceReturnsAt F.FnOnce ask state.now res.new }
+    ensures kept { state_ok state.now ≡ false → res.new ≡ res.old }
+{
+    if !state_ok(state) {
+        return Err(Refusal::NotAState);
+    }
+    *res = ask(state);
+    Ok(())
 }
 
 // The queries: reply 0, or 3 with the result untouched.
+#[tactic(auto, using(crate::proofs::QueryCode::header_of), unfolding(calls::specs::Calls::current_epoch_result))]
 pub fn hb_current_epoch(state: &[u64], res: &mut u64) -> u64
     ensures { (result ≡ query_reply state.now) × (res.new ≡ current_epoch_result state.now res.old) }
 {
-    if !state_ok(state) {
-        return NOT_A_STATE;
-    }
-    *res = state[EPOCH_AT];
-    SUCCESS
+    reply(query(state, res, |state| state[EPOCH_AT]))
 }
 
+#[tactic(auto, using(crate::proofs::QueryCode::header_of), unfolding(calls::specs::Calls::has_input_result))]
 pub fn hb_has_input(state: &[u64], res: &mut u64) -> u64
     ensures { (result ≡ query_reply state.now) × (res.new ≡ has_input_result state.now res.old) }
 {
-    if !state_ok(state) {
-        return NOT_A_STATE;
-    }
-    if has_input(state) {
-        *res = 1;
-        return SUCCESS;
-    }
-    *res = 0;
-    SUCCESS
+    reply(query(state, res, |state| u64::from(has_input(state))))
 }
 
+#[tactic(auto, using(crate::proofs::QueryCode::header_of), unfolding(calls::specs::Calls::received_proposals_result))]
 pub fn hb_received_proposals(state: &[u64], res: &mut u64) -> u64
     ensures { (result ≡ query_reply state.now) × (res.new ≡ received_proposals_result state.now res.old) }
 {
-    if !state_ok(state) {
-        return NOT_A_STATE;
-    }
-    *res = received_proposals(state);
-    SUCCESS
+    reply(query(state, res, |state| received_proposals(state)))
 }
 
+#[tactic(auto, using(crate::proofs::QueryCode::header_of), unfolding(calls::specs::Calls::fault_count_result))]
 pub fn hb_fault_count(state: &[u64], res: &mut u64) -> u64
     ensures { (result ≡ query_reply state.now) × (res.new ≡ fault_count_result state.now res.old) }
 {
-    if !state_ok(state) {
-        return NOT_A_STATE;
-    }
-    *res = state[FAULTS_AT];
-    SUCCESS
+    reply(query(state, res, |state| state[FAULTS_AT]))
 }

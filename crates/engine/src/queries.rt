@@ -6,6 +6,7 @@ ghost use Rattle.work.specs.HoneyBadger.{has_input, received_proposals};
 use state::words::{EPOCH_AT, INPUT_AT, NODES_AT, epoch_length, net_of, place_of};
 
 // Whether input for the current epoch has been provided. An observer has none to provide.
+#[tactic(auto, unfolding(work::specs::HoneyBadger::has_input))]
 pub fn has_input(state: &[u64]) -> bool
     requires { header_length ≤ length state.now }
     ensures { result ≡ has_input state.now }
@@ -15,6 +16,7 @@ pub fn has_input(state: &[u64]) -> bool
 }
 
 // From how many proposers a value of the current epoch is here.
+#[tactic(auto, using(state::proofs::RangeCode::ok_words, crate::proofs::QueryCode::header_of, state::proofs::WordsCode::place_inside, state::proofs::WordsCode::state_small))]
 pub fn received_proposals(state: &[u64]) -> u64
     requires { state_ok state.now ≡ true }
     ensures { result ≡ received_proposals state.now }
