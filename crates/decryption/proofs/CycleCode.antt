@@ -17,7 +17,7 @@ use Rattle.network.specs.declared.network_info.NetworkInfo.{NetworkInfo}
 use Rattle.network.specs.Network.{Network, is_validator}
 use Rattle.steps.specs.Answers.{Tape, ask}
 use Rattle.steps.specs.Steps.{Out, put_entry, put_all, message}
-use Rattle.steps.specs.Runs.{Verdict, going, failed, ends, before, onward, heard, Left, leaves}
+use Rattle.steps.specs.Runs.{Verdict, going, failed, Run, ends, before, onward, heard, Left, leaves}
 use Rattle.steps.proofs.ChainLaws.{and-true}
 use Rattle.steps.proofs.AfterRun.{Afterwards, after_cond, after_onward, after_any, after_out, after_ask}
 use Rattle.steps.proofs.Logic.{anything}
@@ -121,25 +121,22 @@ module _ (net : NetworkInfo) (proposer : ℕ) where
           (after_cond (eqb td.ciphertext 0) _ _ _ tt
           (after_onward (remove_invalid_shares (with_end td) p) _ _ (after_any (remove_invalid_shares (with_end td) p) _ (λ _ td q. own_quiet (with_input td) q))))
 
--- so the instance that it leaves has ended where the first had
-pub removed_ended : (s td : ThresholdDecrypt) (p q : Tape) (o u : Out) (v : Verdict (Unit {0})) → record { state = s; verdict = v; tape = q; out = u } ≡ leaves o (remove_invalid_shares td p) → s.terminated ≡ td.terminated
-removed_ended s td p q o u v r = ap (λ (d : Left ThresholdDecrypt (Unit {0})). d.state.terminated) r ∙ remove_ended _ td p refl
-
--- each call sets a flag that was not set
-pub started_falls : (s td : ThresholdDecrypt) (t : ℕ) → unset td ≡ t → td.had_input ≡ false → s.terminated ≡ td.terminated → unset (with_input s) < t
-started_falls s td t u e m = rw (← u, m, e) (omega arith)
-
-pub ended_falls : (td : ThresholdDecrypt) (t : ℕ) → unset td ≡ t → td.terminated ≡ false → unset (with_end td) < t
-ended_falls td t u e = rw (← u, e) (omega arith)
+-- each call sets a flag that was not set: s is what checking the shares of td left
+pub started_falls : (td s : ThresholdDecrypt) (p q : Tape) (o u : Out) (v : Verdict (Unit {0})) (t : ℕ) → unset td ≡ t → td.had_input ≡ false
+    → record { state = s; verdict = v; tape = q; out = u } ≡ leaves o (remove_invalid_shares td p) → unset (with_input s) < t
+started_falls td s p q o u v t n e r =
+    let m : s.terminated ≡ td.terminated = ap (λ (d : Left ThresholdDecrypt (Unit {0})). d.state.terminated) r ∙ remove_ended _ td p refl in
+    rw (← n, m, e) (omega arith)
 
 module _ (net : NetworkInfo) (proposer : ℕ) where
-  -- where checking the shares went on, or stopped
+  -- from what checking the shares left: the start goes on with the own share, or stops
   module _ (td : ThresholdDecrypt) (p : Tape) (e : td.had_input ≡ false) (z : td.ciphertext ≡ 0 → ⊥) (s : ThresholdDecrypt) (q : Tape) (w : Writer) (o : Out) where
-    pub start_goes : left s (Ok tt) q w ≡ leaves o (remove_invalid_shares td p) → leaves (out_of w) (own_share net proposer (try_output net proposer) (with_input s) q) ≡ leaves o (start_decryption net proposer td p)
-    start_goes d = rw (start_onward net proposer td p e z) (onward_ok _ _ _ _ w o tt d _ refl)
+    pub start_goes : left s (Ok tt) q w ≡ leaves o (remove_invalid_shares td p) → (d : Left ThresholdDecrypt (Option ℕ))
+        → d ≡ leaves (out_of w) (own_share net proposer (try_output net proposer) (with_input s) q) → d ≡ leaves o (start_decryption net proposer td p)
+    start_goes r d n = rw (start_onward net proposer td p e z) (onward_ok _ _ _ _ w o tt r d n)
 
     pub start_stops : (f : Stop) → left s (Err f) q w ≡ leaves o (remove_invalid_shares td p) → left {A = Option ℕ} s (Err f) q w ≡ leaves o (start_decryption net proposer td p)
-    start_stops f d = rw (start_onward net proposer td p e z) (onward_err _ _ _ _ w o f d)
+    start_stops f r = rw (start_onward net proposer td p e z) (onward_err _ _ _ _ w o f r)
 
   -- the own share, which an observer does not send
   module _ (try : Does) (td : ThresholdDecrypt) (p : Tape) where
@@ -153,12 +150,11 @@ module _ (net : NetworkInfo) (proposer : ℕ) where
       own_heard = rw e
 
       pub own_sends : (x : ℕ × ℕ) → told (Ok x) q ≡ heard_in (ask p 11) → (o u : Out) → u ≡ put_entry o (message 3 proposer x.1)
-          → leaves u (try (with_shares td (set td.shares net.our_id x.1)) q) ≡ leaves o (own_share net proposer try td p)
+          → (d : Left ThresholdDecrypt (Option ℕ)) → d ≡ leaves u (try (with_shares td (set td.shares net.our_id x.1)) q) → d ≡ leaves o (own_share net proposer try td p)
       unfolding put_all
-      own_sends x h o u m =
-          rw own_heard
-          (heard_ok_left _ td _ q x h _ o
-          (before_left o (message 3 proposer x.1 ∷ []) (try (with_shares td (set td.shares net.our_id x.1)) q) _ (rw m)))
+      own_sends x h o u m d n =
+          let k : Run ThresholdDecrypt (Option ℕ) = try (with_shares td (set td.shares net.our_id x.1)) q in
+          rw own_heard (heard_ok_left _ td _ q x h d o (before_left o (message 3 proposer x.1 ∷ []) k d (n ∙ ap (λ v. leaves v k) m)))
 
       pub own_stops : (f : Stop) → told (Err f) q ≡ heard_in (ask p 11) → (w : Writer) → left td (Err f) q w ≡ leaves (out_of w) (own_share net proposer try td p)
       own_stops f h w = rw own_heard (heard_err_left _ td _ q f h w)

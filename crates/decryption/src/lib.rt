@@ -103,10 +103,7 @@ impl ThresholdDecrypt {
         ensures run { left self.new result reader.new writer.new ≡ leaves (out_of writer.old) (check_share sender self.old reader.old) }
         ensures table { same_table writer.old writer.new }
     {
-        if !self.is_sender(sender) {
-            return Ok(());
-        }
-        if !self.is_share_valid(sender, reader)? {
+        if self.is_sender(sender) && !self.is_share_valid(sender, reader)? {
             self.shares[sender] = 0;
             writer.fault(FaultKind::UnverifiedDecryptionShareSender, sender as u64, 0);
         }
@@ -149,12 +146,11 @@ impl ThresholdDecrypt {
         }
         self.remove_invalid_shares(reader, writer)?;
         self.had_input = true;
-        if !(net.is_validator() & net.has_key) {
-            return self.try_output(net, proposer, reader, writer);
+        if net.is_validator() && net.has_key {
+            let (_, share) = reader.ask(AnswerKind::OwnDecryptionShare)?;
+            writer.message(MessageKind::Share, proposer as u64, share);
+            self.shares[net.our_id] = share;
         }
-        let (_, share) = reader.ask(AnswerKind::OwnDecryptionShare)?;
-        writer.message(MessageKind::Share, proposer as u64, share);
-        self.shares[net.our_id] = share;
         self.try_output(net, proposer, reader, writer)
     }
 
@@ -171,13 +167,7 @@ impl ThresholdDecrypt {
         ensures run { left self.new result reader.new writer.new ≡ leaves (out_of writer.old) (try_output net proposer self.old reader.old) }
         ensures table { same_table writer.old writer.new }
     {
-        if self.terminated {
-            return Ok(None);
-        }
-        if count(&self.shares) <= net.num_faulty {
-            return Ok(None);
-        }
-        if self.ciphertext == 0 {
+        if self.terminated || count(&self.shares) <= net.num_faulty || self.ciphertext == 0 {
             return Ok(None);
         }
         self.terminated = true;
