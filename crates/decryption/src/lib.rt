@@ -1,7 +1,7 @@
 // Collaborative threshold decryption, after threshold_decrypt.rs.
 //
-// Shares and the ciphertext are handles; 0 stands for none. An instance is changed in place, by methods that are lent it: it is 152 bytes long,
-// and the stack should hold it once.
+// Shares and the ciphertext are handles; 0 stands for none and not an Option, as in the words of the state that document 01 lays out. An instance
+// is changed in place, by methods that are lent it: it is 152 bytes long, and the stack should hold it once.
 #![tactic(auto)]
 
 ghost use Rattle.std.specs.Prelude.{◌≡◌, ◌<◌};
@@ -125,7 +125,8 @@ impl ThresholdDecrypt {
         Ok(())
     }
 
-    // Sends the own share, and tries to combine.
+    // Sends the own share, and tries to combine. Starting and combining call each other, as in the Rust (document 01): each call sets a flag that
+    // was not set.
     #[cycle(start_decryption_try_output)]
     pub fn start_decryption(
         &mut self,
@@ -154,7 +155,8 @@ impl ThresholdDecrypt {
         self.try_output(net, proposer, reader, writer)
     }
 
-    // Combines the shares, if there is a ciphertext and enough of them. Before that it makes sure that the own share was sent.
+    // Combines the shares, if there is a ciphertext and enough of them. Before that it makes sure that the own share was sent. A start from here
+    // has no output, since `terminated` is set (law `start_quiet`).
     #[cycle(start_decryption_try_output)]
     fn try_output(
         &mut self,
