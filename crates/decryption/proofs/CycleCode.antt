@@ -1,25 +1,28 @@
 -- Starting and combining: each goes on with the other, as in the Rust. Assumes nothing.
 use Prim.Native.Nat.{ℕ, ◌<◌, ◌≤◌}
-use mathlib.Core.Path.{◌≡◌, refl, sym, ap, ◌∙◌}
+use mathlib.Core.Path.{◌≡◌, refl, ap, ◌∙◌}
 use mathlib.Core.List.{List, [], ◌∷◌}
-use mathlib.Core.Bool.{Bool, true, false, cond, not, ◌&&◌, ◌||◌, false≢true}
-use Rattle.std.specs.Prelude.{Option, None, Some}
+use mathlib.Core.Bool.{Bool, true, false, cond, ◌&&◌}
+use Rattle.std.specs.Prelude.{Option, None, Some, Ok, Err}
+use Rattle.steps.specs.declared.kinds.Stop.{Stop}
+use Rattle.steps.specs.declared.step.Writer.{Writer}
+use Rattle.steps.specs.Written.{out_of, left}
+use Rattle.steps.proofs.LentRuns.{heard_ok_left, heard_err_left, before_left, onward_ok, onward_err}
+use Rattle.steps.specs.Told.{told, heard_in}
 use native.Mathlib.Omega.{arith}
 use lib.ListN.{set}
-use lib.Dec.{eqb, ltb}
-use borrow.Author.Tests.{ltb-true, ltb-false, eqb-true, eqb-false, not-true, not-false, le-leb, lt-leb, eq-eqb, ne_eqb}
+use lib.Dec.{eqb}
+use borrow.Author.Tests.{ltb-true, le-leb, lt-leb, eq-eqb, ne_eqb}
 use Rattle.network.specs.declared.network_info.NetworkInfo.{NetworkInfo}
-use Rattle.steps.specs.declared.reader.Answer.{Answer}
-use Rattle.steps.specs.declared.reader.Answer.TheVariants.{Got, Refused as NoAnswer}
 use Rattle.network.specs.Network.{Network, is_validator}
-use Rattle.steps.specs.Answers.{Tape, asked, ask}
+use Rattle.steps.specs.Answers.{Tape, ask}
 use Rattle.steps.specs.Steps.{Out, put_entry, put_all, message}
-use Rattle.steps.specs.Runs.{going, refused, failed, ends, before, onward_as, onward, heard, Left, leaves}
+use Rattle.steps.specs.Runs.{Verdict, going, failed, Run, ends, before, onward, heard, Left, leaves}
 use Rattle.steps.proofs.ChainLaws.{and-true}
 use Rattle.steps.proofs.AfterRun.{Afterwards, after_cond, after_onward, after_any, after_out, after_ask}
 use Rattle.steps.proofs.Logic.{anything}
 use Rattle.steps.proofs.StateKept.{holding}
-use Rattle.steps.proofs.RunLaws.{onward_go, onward_refused, onward_stop, onward_at, onward_cong, heard_cong, heard_got, heard_none}
+use Rattle.steps.proofs.RunLaws.{onward_at, onward_cong, heard_cong}
 use Rattle.decryption.specs.Decrypt.{with_shares, with_input, with_end, count_shares, remove_invalid_shares, own_share, start_with, combine, try_with, start_decryption, try_output}
 use Rattle.decryption.specs.declared.ThresholdDecrypt.{ThresholdDecrypt}
 pub use Rattle.decryption.proofs.Walk.{Does}
@@ -30,17 +33,6 @@ use Rattle.decryption.proofs.ShareCode.{unset}
 pub cond_cong : {A : Type 0} (x : Bool) {a b c d : A} → a ≡ b → c ≡ d → cond x a c ≡ cond x b d
 cond_cong true p q = p
 cond_cong false p q = q
-
--- the instance, with a mark where its shares are combined
-abbrev pub marked : ThresholdDecrypt → Bool → ThresholdDecrypt
-marked td b = record { ciphertext = td.ciphertext; shares = td.shares; had_input = td.had_input; terminated = td.terminated || b }
-
-or_false : (x : Bool) → x || false ≡ x
-or_false true = refl
-or_false false = refl
-
-unmarked : (td : ThresholdDecrypt) → marked td false ≡ td
-unmarked td = ap (λ x. record { ciphertext = td.ciphertext; shares = td.shares; had_input = td.had_input; terminated = x }) (or_false td.terminated)
 
 -- checking shares leaves what is not a share
 pub remove_ended : (x : Bool) (td : ThresholdDecrypt) (p : Tape) → td.terminated ≡ x → (remove_invalid_shares td p).state.terminated ≡ x
@@ -91,29 +83,6 @@ module _ (net : NetworkInfo) (proposer : ℕ) where
   unfolding try_output try_with
   try_none td p e h z = rw (e, lt-leb _ _ h, eq-eqb _ _ z)
 
-  -- the code's one test for the three, where there are n shares
-  abbrev pub combines_now : ThresholdDecrypt → ℕ → Bool
-  combines_now td n = (not td.terminated && ltb net.num_faulty n) && not (eqb td.ciphertext 0)
-
-  -- what it says where it holds, m being the instance with its mark
-  abbrev pub Ready : ThresholdDecrypt → ThresholdDecrypt → Type 0
-  Ready td m = (td.terminated ≡ false) × (net.num_faulty < count_shares td.shares) × (td.ciphertext ≡ 0 → ⊥) × (m ≡ with_end td)
-
-  pub ready : (td : ThresholdDecrypt) (n : ℕ) → n ≡ count_shares td.shares → combines_now td n ≡ true → Ready td (marked td (combines_now td n))
-  ready td n k e =
-      let a = and-true _ _ e in
-      let b = and-true _ _ a.0 in
-      (not-true _ b.0, rw (← k) (ltb-true _ _ b.1), eqb-false _ _ (not-true _ a.1), rw (e, not-true td.terminated b.0) refl)
-
-  try_waits : (td : ThresholdDecrypt) (p : Tape) (n : ℕ) → n ≡ count_shares td.shares → combines_now td n ≡ false → try_output net proposer td p ≡ ends (going None) (marked td (combines_now td n)) p
-  try_waits td p n k e = rw (e, unmarked td) (go _ _ _ refl refl refl)
-    where
-      go : (x y z : Bool) → td.terminated ≡ x → ltb net.num_faulty n ≡ y → eqb td.ciphertext 0 ≡ z → try_output net proposer td p ≡ ends (going None) td p
-      go true y z u v w = try_ended td p u
-      go false false z u v w = try_few td p u (rw (← k) (ltb-false _ _ v))
-      go false true true u v w = try_none td p u (rw (← k) (ltb-true _ _ v)) (eqb-true _ _ w)
-      go false true false u v w = absurd (false≢true (sym e ∙ rw (u, v, w) refl))
-
   -- a start while combining combines nothing
   try_quiet : (k : Does) (td : ThresholdDecrypt) (p : Tape) → td.terminated ≡ true → ends (going None) td p ≡ try_with net k td p
   unfolding try_with
@@ -134,20 +103,6 @@ module _ (net : NetworkInfo) (proposer : ℕ) where
   unfolding try_output try_with
   try_onward td p e h z = rw (e, lt-leb _ _ h, ne_eqb _ _ z) (ap (λ r. onward r (λ _ td q. combine td q)) (start_ended td p))
 
-  -- once it has started, the shares are combined at once
-  try_started : (td m : ThresholdDecrypt) (p : Tape) → Ready td m → td.had_input ≡ true → try_output net proposer td p ≡ combine m p
-  unfolding onward onward_as
-  try_started td m p r s = rw (r.3, try_onward td p r.0 r.1 r.2, start_redundant (with_end td) p s)
-
-  -- where nothing is to be started the shares are combined, or it waits
-  pub try_rest : (td : ThresholdDecrypt) (p : Tape) (n : ℕ) → n ≡ count_shares td.shares → (combines_now td n && not td.had_input) ≡ false
-      → try_output net proposer td p ≡ cond (combines_now td n) (combine (marked td (combines_now td n)) p) (ends (going None) (marked td (combines_now td n)) p)
-  try_rest td p n k e = go _ refl
-    where
-      go : (x : Bool) → combines_now td n ≡ x → try_output net proposer td p ≡ cond x (combine (marked td (combines_now td n)) p) (ends (going None) (marked td (combines_now td n)) p)
-      go true c = try_started td (marked td (combines_now td n)) p (ready td n k c) (not-false _ (sym (ap (λ x. x && not td.had_input) c) ∙ e))
-      go false c = try_waits td p n k c
-
   own_quiet : (td : ThresholdDecrypt) (p : Tape) → Afterwards (own_share net proposer (ends (going None)) td p) (λ o s q. o ≡ None)
   unfolding own_share
   own_quiet td p = after_cond (is_validator net && net.has_key) _ _ _ (after_ask p 11 td _ _ (λ a b q r. refl)) refl
@@ -166,67 +121,40 @@ module _ (net : NetworkInfo) (proposer : ℕ) where
           (after_cond (eqb td.ciphertext 0) _ _ _ tt
           (after_onward (remove_invalid_shares (with_end td) p) _ _ (after_any (remove_invalid_shares (with_end td) p) _ (λ _ td q. own_quiet (with_input td) q))))
 
-  -- what a function leaves, from what its calls left
-  module _ (td : ThresholdDecrypt) (p : Tape) (o : Out) where
-    module _ (d : Left ThresholdDecrypt (Unit {0})) (e : td.had_input ≡ false) (z : td.ciphertext ≡ 0 → ⊥) (r : d ≡ leaves o (remove_invalid_shares td p)) where
-      pub start_refused : d.verdict ≡ refused → leaves d.out (ends {A = Option ℕ} refused d.state d.tape) ≡ leaves o (start_decryption net proposer td p)
-      unfolding put_all
-      start_refused n = rw (start_onward td p e z) (onward_refused d o _ _ r n)
+-- each call sets a flag that was not set: s is what checking the shares of td left
+pub started_falls : (td s : ThresholdDecrypt) (p q : Tape) (o u : Out) (v : Verdict (Unit {0})) (t : ℕ) → unset td ≡ t → td.had_input ≡ false
+    → record { state = s; verdict = v; tape = q; out = u } ≡ leaves o (remove_invalid_shares td p) → unset (with_input s) < t
+started_falls td s p q o u v t n e r =
+    let m : s.terminated ≡ td.terminated = ap (λ (d : Left ThresholdDecrypt (Unit {0})). d.state.terminated) r ∙ remove_ended _ td p refl in
+    rw (← n, m, e) (omega arith)
 
-      pub start_goes : d.verdict ≡ going tt → leaves d.out (own_share net proposer (try_output net proposer) (with_input d.state) d.tape) ≡ leaves o (start_decryption net proposer td p)
-      start_goes n = rw (start_onward td p e z) (onward_go d o _ (λ _ td q. own_share net proposer (try_output net proposer) (with_input td) q) r tt n)
+module _ (net : NetworkInfo) (proposer : ℕ) where
+  -- from what checking the shares left: the start goes on with the own share, or stops
+  module _ (td : ThresholdDecrypt) (p : Tape) (e : td.had_input ≡ false) (z : td.ciphertext ≡ 0 → ⊥) (s : ThresholdDecrypt) (q : Tape) (w : Writer) (o : Out) where
+    pub start_goes : left s (Ok tt) q w ≡ leaves o (remove_invalid_shares td p) → (d : Left ThresholdDecrypt (Option ℕ))
+        → d ≡ leaves (out_of w) (own_share net proposer (try_output net proposer) (with_input s) q) → d ≡ leaves o (start_decryption net proposer td p)
+    start_goes r d n = rw (start_onward net proposer td p e z) (onward_ok _ _ _ _ w o tt r d n)
 
-    module _ (d : Left ThresholdDecrypt (Option ℕ)) (m : ThresholdDecrypt) (y : Ready td m) (r : d ≡ leaves o (start_decryption net proposer m p)) where
-      ended : d ≡ leaves o (start_decryption net proposer (with_end td) p)
-      ended = r ∙ ap (λ x. leaves o (start_decryption net proposer x p)) y.3
+    pub start_stops : (f : Stop) → left s (Err f) q w ≡ leaves o (remove_invalid_shares td p) → left {A = Option ℕ} s (Err f) q w ≡ leaves o (start_decryption net proposer td p)
+    start_stops f r = rw (start_onward net proposer td p e z) (onward_err _ _ _ _ w o f r)
 
-      pub try_stops : (d.verdict ≡ going None → ⊥) → d ≡ leaves o (try_output net proposer td p)
-      try_stops n = rw (try_onward td p y.0 y.1 y.2) (onward_stop d o _ _ ended stops)
-        where
-          stops : (a : Option ℕ) → d.verdict ≡ going a → ⊥
-          stops None m = n m
-          stops (Some b) m = start_quiet td p b (sym (ap (λ x. x.verdict) ended) ∙ m)
-
-      pub try_goes : d.verdict ≡ going None → leaves d.out (combine d.state d.tape) ≡ leaves o (try_output net proposer td p)
-      try_goes n = rw (try_onward td p y.0 y.1 y.2) (onward_go d o _ (λ _ td q. combine td q) ended None n)
-
-  -- the own share, case by case
+  -- the own share, which an observer does not send
   module _ (try : Does) (td : ThresholdDecrypt) (p : Tape) where
     pub own_observer : (is_validator net && net.has_key) ≡ false → own_share net proposer try td p ≡ try td p
     unfolding own_share
     own_observer e = rw e
 
-    module _ (x : Answer) (q : Tape) (k : asked x q ≡ ask p 11) (e : (is_validator net && net.has_key) ≡ true) where
+    module _ (e : (is_validator net && net.has_key) ≡ true) (q : Tape) where
       own_heard : own_share net proposer try td p ≡ heard (ask p 11) td (λ a b q. before (message 3 proposer b ∷ []) (try (with_shares td (set td.shares net.our_id b)) q))
       unfolding own_share
       own_heard = rw e
 
-      pub own_refused : x ≡ NoAnswer → own_share net proposer try td p ≡ ends refused td q
-      own_refused n = own_heard ∙ heard_none _ x q td _ k n
-
-      pub own_sends : (a b : ℕ) → x ≡ Got a b → (o u : Out) → u ≡ put_entry o (message 3 proposer b) → leaves u (try (with_shares td (set td.shares net.our_id b)) q) ≡ leaves o (own_share net proposer try td p)
+      pub own_sends : (x : ℕ × ℕ) → told (Ok x) q ≡ heard_in (ask p 11) → (o u : Out) → u ≡ put_entry o (message 3 proposer x.1)
+          → (d : Left ThresholdDecrypt (Option ℕ)) → d ≡ leaves u (try (with_shares td (set td.shares net.our_id x.1)) q) → d ≡ leaves o (own_share net proposer try td p)
       unfolding put_all
-      own_sends a b n o u m = rw (own_heard, heard_got _ x q td _ k a b n, m)
+      own_sends x h o u m d n =
+          let k : Run ThresholdDecrypt (Option ℕ) = try (with_shares td (set td.shares net.our_id x.1)) q in
+          rw own_heard (heard_ok_left _ td _ q x h d o (before_left o (message 3 proposer x.1 ∷ []) k d (n ∙ ap (λ v. leaves v k) m)))
 
--- combining, by the answer
-module _ (td : ThresholdDecrypt) (p : Tape) (x : Answer) (q : Tape) (k : asked x q ≡ ask p 12) where
-  pub combine_refused : x ≡ NoAnswer → combine td p ≡ ends refused td q
-  unfolding combine
-  combine_refused n = heard_none _ x q td _ k n
-
-  pub combine_failed : (a b : ℕ) → x ≡ Got a b → a ≡ 0 → combine td p ≡ ends (failed 24) td q
-  unfolding combine
-  combine_failed a b n z = heard_got _ x q td _ k a b n ∙ rw (eq-eqb _ _ z)
-
-  pub combine_plain : (a b : ℕ) → x ≡ Got a b → (a ≡ 0 → ⊥) → combine td p ≡ ends (going (Some b)) td q
-  unfolding combine
-  combine_plain a b n z = heard_got _ x q td _ k a b n ∙ rw (ne_eqb _ _ z)
-
--- each call sets a flag
-pub started_falls : (td : ThresholdDecrypt) (p : Tape) (o : Out) (d : Left ThresholdDecrypt (Unit {0})) (t : ℕ) → unset td ≡ t → td.had_input ≡ false → d ≡ leaves o (remove_invalid_shares td p) → unset (with_input d.state) < t
-started_falls td p o d t u e r =
-    let m : d.state.terminated ≡ td.terminated = ap (λ x. x.state.terminated) r ∙ remove_ended _ td p refl in
-    rw (← u, m, e) (omega arith)
-
-pub ended_falls : (td m : ThresholdDecrypt) (t : ℕ) → unset td ≡ t → td.terminated ≡ false → m ≡ with_end td → unset m < t
-ended_falls td m t u e w = rw (w, ← u, e) (omega arith)
+      pub own_stops : (f : Stop) → told (Err f) q ≡ heard_in (ask p 11) → (w : Writer) → left td (Err f) q w ≡ leaves (out_of w) (own_share net proposer try td p)
+      own_stops f h w = rw own_heard (heard_err_left _ td _ q f h w)

@@ -17,7 +17,6 @@ use Rattle.steps.proofs.StateKept.{holding}
 use Rattle.steps.proofs.FailureNumbers.{only_number, numbers, numbers_permit, failing}
 use Rattle.decryption.specs.Decrypt.{with_shares, with_input, with_end, is_some, is_sender, count_shares, set_ciphertext, remove_invalid_shares, own_share, combine, try_with, start_decryption, try_output, store_share, handle_message}
 use Rattle.decryption.specs.declared.ThresholdDecrypt.{ThresholdDecrypt}
-use Rattle.decryption.specs.declared.Validity.TheVariants.{Valid}
 use Rattle.steps.proofs.AfterRun.{Afterwards, after_cond, after_out, after_about}
 use Rattle.decryption.proofs.CycleCode.{cond_cong, start_redundant, start_onward, try_few, try_none}
 use Rattle.decryption.proofs.Walk.{Does, Checks, Combines, any_combines, set_keeps as set_walk, remove_keeps as remove_walk, start_keeps as start_walk, try_keeps as try_walk, store_keeps as store_walk, handle_keeps as handle_walk}
@@ -95,11 +94,11 @@ module _ (net : NetworkInfo) (proposer : ℕ) where
 -- A DUPLICATE SHARE COMBINES NOTHING. It overwrites the first and is fault 6, and nothing is asked but whether it is valid
 module _ (net : NetworkInfo) (proposer sender share : ℕ) (td : ThresholdDecrypt) (p : Tape) (e : td.terminated ≡ false) (s : is_sender td sender ≡ true) where
   pub again_early : td.ciphertext ≡ 0 → handle_message net proposer sender share td p ≡ before (fault 6 sender 0 ∷ []) (ends (going None) (with_shares td (set td.shares sender share)) p)
-  again_early z = handle_valid net proposer sender share td p Valid p (sym (valid_early sender td p z)) e refl ∙ store_again net proposer sender share td p (eqb-false _ _ (not-true _ s))
+  again_early z = handle_valid net proposer sender share td p p (sym (valid_early sender td p z)) e ∙ store_again net proposer sender share td p (eqb-false _ _ (not-true _ s))
 
   pub again_late : (td.ciphertext ≡ 0 → ⊥) → (a b : ℕ) (q : Tape) → asked (Got a b) q ≡ ask_about p 10 sender → (a ≡ 0 → ⊥) → handle_message net proposer sender share td p ≡ before (fault 6 sender 0 ∷ []) (ends (going None) (with_shares td (set td.shares sender share)) q)
   again_late z a b q k y =
-      handle_valid net proposer sender share td p Valid q (sym (valid_told sender td p _ q k z a b refl ∙ rw (ne_eqb _ _ y))) e refl
+      handle_valid net proposer sender share td p q (sym (valid_told sender td p _ q k z a b refl ∙ rw (ne_eqb _ _ y))) e
       ∙ store_again net proposer sender share td q (eqb-false _ _ (not-true _ s))
 
 -- WITHOUT A CIPHERTEXT a share combines nothing, whether it is kept, a duplicate or late
@@ -119,7 +118,7 @@ early_none net proposer sender share td p z = ended td.terminated refl
 
     ended : (x : Bool) → td.terminated ≡ x → (handle_message net proposer sender share td p).verdict ≡ going None
     ended true e = rw (handle_ended net proposer sender share td p e)
-    ended false e = rw (handle_valid net proposer sender share td p Valid p (sym (valid_early sender td p z)) e refl) (first e (eqb (get_or td.shares sender 0) 0) refl)
+    ended false e = rw (handle_valid net proposer sender share td p p (sym (valid_early sender td p z)) e) (first e (eqb (get_or td.shares sender 0) 0) refl)
 
 -- 24 AND 25 ARE THE ONLY FAILURES, 25 of setting a ciphertext, 24 of the others. Checking shares fails with no number
 abbrev checking : (ok : ℕ → Bool) → Checks (numbers ok) (failing ok ThresholdDecrypt)

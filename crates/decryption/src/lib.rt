@@ -1,29 +1,22 @@
 // Collaborative threshold decryption, after threshold_decrypt.rs.
 //
-// Shares and the ciphertext are handles; 0 stands for none. `answers`, `place`, `step` and `words` are the call's answers with the
-// place in them, and its step with the table that it is written to.
+// Shares and the ciphertext are handles; 0 stands for none and not an Option, as in the words of the state that document 01 lays out. An instance
+// is changed in place, by methods that are lent it: it is 152 bytes long, and the stack should hold it once.
 #![tactic(auto)]
 
-ghost use Rattle.std.specs.Prelude.{◌≡◌, ℕ, ◌<◌, List, cond};
-ghost use Rattle.std.specs.Prelude.{None};
+ghost use Rattle.std.specs.Prelude.{◌≡◌, ◌<◌};
 ghost use Rattle.network.specs.Network.{Network};
-ghost use Rattle.steps.specs.Answers.{tape_at};
-ghost use Rattle.steps.specs.declared.step.Step.{Step};
-ghost use Rattle.steps.specs.Steps.{out};
-ghost use Rattle.steps.specs.Runs.{going, ends, leaves};
+ghost use Rattle.steps.specs.Written.{out_of, same_table, left, left_reading};
+ghost use Rattle.steps.specs.Runs.{leaves};
 ghost use Rattle.decryption.specs.declared.ThresholdDecrypt.{ThresholdDecrypt};
-ghost use Rattle.decryption.specs.Outcomes.{left_set, left_valid, left_checked, left, handled};
-ghost use Rattle.decryption.specs.Decrypt.{new, is_sender, count_shares, set_ciphertext, is_share_valid, remove_invalid_shares, combine, start_decryption, try_output, store_share, handle_message};
+ghost use Rattle.decryption.specs.Decrypt.{new, is_sender, count_shares, set_ciphertext, is_share_valid, check_share, remove_invalid_shares, combine, start_decryption, try_output, store_share, handle_message};
 
 use network::network_info::NetworkInfo;
-use steps::numbers::{
-    CIPHERTEXT_VERIFIES, CONTRIBUTION_DECRYPTED, MULTIPLE_DECRYPTION_SHARES, OWN_DECRYPTION_SHARE,
-    SHARE_CONTENT, SHARE_VERIFIES, UNVERIFIED_DECRYPTION_SHARE_SENDER,
-};
-use steps::reader::{Answer, Cursor};
-use steps::step::Step;
+use steps::kinds::{AnswerKind, Failure, FaultKind, MessageKind, Stop};
+use steps::reader::Reader;
+use steps::step::Writer;
 
-#[derive(Clone, Copy)]
+#[derive(Clone, Copy, Default)]
 pub struct ThresholdDecrypt {
     pub ciphertext: u64,
     // By sender. A table by index, for the Rust's map.
@@ -34,99 +27,22 @@ pub struct ThresholdDecrypt {
     pub terminated: bool,
 }
 
-// What `set_ciphertext` comes to. `Invalid` is the caller's fault 4.
-#[derive(Clone, Copy)]
-pub enum SetOutcome {
-    Set,
-    Invalid,
-    MultipleInputs,
-    Refused,
-}
-
-#[derive(Clone, Copy)]
-pub struct SetCiphertext {
-    pub td: ThresholdDecrypt,
-    pub outcome: SetOutcome,
-}
-
-// What asking about a share comes to.
-#[derive(Clone, Copy)]
-pub enum Validity {
-    Valid,
-    Invalid,
-    Refused,
-}
-
-// What checking shares comes to.
-#[derive(Clone, Copy)]
-pub enum Checked {
-    Done,
-    Refused,
-}
-
-#[derive(Clone, Copy)]
-pub struct Removed {
-    pub td: ThresholdDecrypt,
-    pub outcome: Checked,
-    pub step: Step,
-}
-
-// What an operation comes to: nothing yet, the output, a wanted answer that is not there, or the Rust's error `Decryption`.
-#[derive(Clone, Copy)]
-pub enum Outcome {
-    Nothing,
-    Plaintext(u64),
-    Refused,
-    Decryption,
-}
-
-#[derive(Clone, Copy)]
-pub struct Handled {
-    pub td: ThresholdDecrypt,
-    pub outcome: Outcome,
-    pub step: Step,
-}
-
 // How many shares there are.
-fn count(shares: [u64; 16]) -> usize
-    ensures { result ≡ count_shares shares }
+fn count(shares: &[u64; 16]) -> usize
+    ensures { result ≡ count_shares shares.now }
 {
-    let mut n: usize = 0;
-    let mut i: usize = 0;
-    while i < 16 {
-        if shares[i] != 0 {
-            n += 1;
-        }
-        i += 1;
-    }
-    n
+    shares.iter().filter(|share| **share != 0).count()
 }
 
-// Asks for the plaintext. It changes no instance and writes no words, so that the equation is one for any of them.
-fn combine(answers: &[u64], place: &mut usize) -> Outcome
-    ensures { (td : ThresholdDecrypt) (s : Step) (w : List ℕ) → left (handled td result s) (tape_at answers.now place.new) w
-        ≡ leaves (out s w) (combine td (tape_at answers.now place.old)) }
+// Asks for the plaintext. It changes no instance.
+fn combine(reader: &mut Reader) -> Result<Option<u64>, Stop>
+    ensures { (td : ThresholdDecrypt) → left_reading td result reader.new ≡ combine td reader.old }
 {
-    match steps::reader::ask_from(answers, place, CONTRIBUTION_DECRYPTED) {
-        Answer::Got { a, b } => {
-            if a == 0 {
-                return Outcome::Decryption;
-            }
-            Outcome::Plaintext(b)
-        }
-        Answer::Refused => Outcome::Refused,
+    let (decrypted, plaintext) = reader.ask(AnswerKind::ContributionDecrypted)?;
+    if decrypted == 0 {
+        return Err(Stop::Failed(Failure::Decryption));
     }
-}
-
-// The same where there is something to combine.
-fn combine_if(combines: bool, answers: &[u64], place: &mut usize) -> Outcome
-    ensures { (td : ThresholdDecrypt) (s : Step) (w : List ℕ) → left (handled td result s) (tape_at answers.now place.new) w
-        ≡ leaves (out s w) (cond combines (combine td (tape_at answers.now place.old)) (ends (going None) td (tape_at answers.now place.old))) }
-{
-    if !combines {
-        return Outcome::Nothing;
-    }
-    combine(answers, place)
+    Ok(Some(plaintext))
 }
 
 impl ThresholdDecrypt {
@@ -134,393 +50,177 @@ impl ThresholdDecrypt {
     pub fn new() -> Self
         ensures { result ≡ new }
     {
-        ThresholdDecrypt {
-            ciphertext: 0,
-            shares: [0u64; 16],
-            had_input: false,
-            terminated: false,
-        }
+        Self::default()
     }
 
     // Whether a node is among `sender_ids`, those that sent a share.
-    pub fn is_sender(self, sender: usize) -> bool
+    pub fn is_sender(&self, sender: usize) -> bool
         requires { sender < 16 }
-        ensures { result ≡ is_sender self sender }
+        ensures { result ≡ is_sender self.now sender }
     {
         self.shares[sender] != 0
     }
 
-    fn set_ciphertext_at(
-        self,
-        proposer: u64,
+    // Sets the ciphertext, if there is none yet and it verifies: whether it does.
+    pub fn set_ciphertext(
+        &mut self,
+        proposer: usize,
         ciphertext: u64,
-        answers: &[u64],
-        place: &mut usize,
-    ) -> SetCiphertext
-        ensures { left_set result (tape_at answers.now place.new)
-            ≡ set_ciphertext proposer ciphertext self (tape_at answers.now place.old) }
+        reader: &mut Reader,
+    ) -> Result<bool, Stop>
+        ensures { left_reading self.new result reader.new ≡ set_ciphertext proposer ciphertext self.old reader.old }
     {
         if self.ciphertext != 0 {
-            return SetCiphertext {
-                td: self,
-                outcome: SetOutcome::MultipleInputs,
-            };
+            return Err(Stop::Failed(Failure::MultipleInputs));
         }
-        match steps::reader::ask_about_from(answers, place, CIPHERTEXT_VERIFIES, proposer) {
-            Answer::Got { a, b: _ } => {
-                if a == 0 {
-                    return SetCiphertext {
-                        td: self,
-                        outcome: SetOutcome::Invalid,
-                    };
-                }
-                let mut td = self;
-                td.ciphertext = ciphertext;
-                SetCiphertext {
-                    td,
-                    outcome: SetOutcome::Set,
-                }
-            }
-            Answer::Refused => SetCiphertext {
-                td: self,
-                outcome: SetOutcome::Refused,
-            },
+        let (verifies, _) = reader.ask_about(AnswerKind::CiphertextVerifies, proposer)?;
+        if verifies == 0 {
+            return Ok(false);
         }
-    }
-
-    // Sets the ciphertext, if there is none yet and it verifies.
-    pub fn set_ciphertext(
-        self,
-        proposer: u64,
-        ciphertext: u64,
-        cursor: &mut Cursor,
-        answers: &[u64],
-    ) -> SetCiphertext
-        ensures { (left_set result (tape_at answers.now cursor.new.place)
-            ≡ set_ciphertext proposer ciphertext self (tape_at answers.now cursor.old.place))
-            × (cursor.new.last ≡ cursor.old.last) }
-    {
-        self.set_ciphertext_at(proposer, ciphertext, answers, &mut cursor.place)
-    }
-
-    pub fn set_ciphertext_from(
-        self,
-        proposer: u64,
-        ciphertext: u64,
-        answers: &[u64],
-        place: &mut usize,
-    ) -> SetCiphertext
-        ensures { left_set result (tape_at answers.now place.new)
-            ≡ set_ciphertext proposer ciphertext self (tape_at answers.now place.old) }
-    {
-        let mut cursor = steps::reader::cursor_at(answers, *place);
-        let set = self.set_ciphertext(proposer, ciphertext, &mut cursor, answers);
-        *place = cursor.place;
-        set
+        self.ciphertext = ciphertext;
+        Ok(true)
     }
 
     // Whether the share of this sender is valid. It is asked about once there is a ciphertext.
-    fn is_share_valid(self, sender: usize, answers: &[u64], place: &mut usize) -> Validity
-        ensures { left_valid self result (tape_at answers.now place.new)
-            ≡ is_share_valid sender self (tape_at answers.now place.old) }
+    fn is_share_valid(&self, sender: usize, reader: &mut Reader) -> Result<bool, Stop>
+        ensures { left_reading self.now result reader.new ≡ is_share_valid sender self.now reader.old }
     {
         if self.ciphertext == 0 {
-            return Validity::Valid;
+            return Ok(true);
         }
-        match steps::reader::ask_about_from(answers, place, SHARE_VERIFIES, sender as u64) {
-            Answer::Got { a, b: _ } => {
-                if a == 0 {
-                    return Validity::Invalid;
-                }
-                Validity::Valid
-            }
-            Answer::Refused => Validity::Refused,
+        let (verifies, _) = reader.ask_about(AnswerKind::ShareVerifies, sender)?;
+        Ok(verifies != 0)
+    }
+
+    // Removes the share of this sender, if there is one and it is invalid, with a fault.
+    fn check_share(
+        &mut self,
+        sender: usize,
+        reader: &mut Reader,
+        writer: &mut Writer,
+    ) -> Result<(), Stop>
+        requires { sender < 16 }
+        ensures run { left self.new result reader.new writer.new ≡ leaves (out_of writer.old) (check_share sender self.old reader.old) }
+        ensures table { same_table writer.old writer.new }
+    {
+        if self.is_sender(sender) && !self.is_share_valid(sender, reader)? {
+            self.shares[sender] = 0;
+            writer.fault(FaultKind::UnverifiedDecryptionShareSender, sender as u64, 0);
         }
+        Ok(())
     }
 
     // Removes all shares that are invalid, by rising sender, with a fault for each.
     fn remove_invalid_shares(
-        self,
-        answers: &[u64],
-        place: &mut usize,
-        step: Step,
-        words: &mut [u64],
-    ) -> Removed
-        ensures { left_checked result (tape_at answers.now place.new) words.new
-            ≡ leaves (out step words.old) (remove_invalid_shares self (tape_at answers.now place.old)) }
+        &mut self,
+        reader: &mut Reader,
+        writer: &mut Writer,
+    ) -> Result<(), Stop>
+        ensures run { left self.new result reader.new writer.new ≡ leaves (out_of writer.old) (remove_invalid_shares self.old reader.old) }
+        ensures table { same_table writer.old writer.new }
     {
-        let mut td = self;
-        let mut s = step;
-        let mut i: usize = 0;
-        while i < 16 {
-            let sender = i;
-            if td.shares[sender] != 0 {
-                match td.is_share_valid(sender, answers, place) {
-                    Validity::Valid => {}
-                    Validity::Invalid => {
-                        td.shares[sender] = 0;
-                        s = s.fault(words, UNVERIFIED_DECRYPTION_SHARE_SENDER, sender as u64, 0);
-                    }
-                    Validity::Refused => {
-                        return Removed {
-                            td,
-                            outcome: Checked::Refused,
-                            step: s,
-                        };
-                    }
-                }
-            }
-            i += 1;
+        for sender in 0..16 {
+            self.check_share(sender, reader, writer)?;
         }
-        Removed {
-            td,
-            outcome: Checked::Done,
-            step: s,
-        }
+        Ok(())
     }
 
-    // The result with these parts.
-    fn handled(self, outcome: Outcome, step: Step) -> Handled
-        ensures { result ≡ handled self outcome step }
-    {
-        Handled {
-            td: self,
-            outcome,
-            step,
-        }
-    }
-
-    #[cycle(start_decryption_at_try_output)]
-    fn start_decryption_at(
-        self,
+    // Sends the own share, and tries to combine. Starting and combining call each other, as in the Rust (document 01): each call sets a flag that
+    // was not set.
+    #[cycle(start_decryption_try_output)]
+    pub fn start_decryption(
+        &mut self,
         net: NetworkInfo,
-        proposer: u64,
-        answers: &[u64],
-        place: &mut usize,
-        step: Step,
-        words: &mut [u64],
-    ) -> Handled
+        proposer: usize,
+        reader: &mut Reader,
+        writer: &mut Writer,
+    ) -> Result<Option<u64>, Stop>
         requires { Network net }
-        ensures { left result (tape_at answers.now place.new) words.new
-            ≡ leaves (out step words.old) (start_decryption net proposer self (tape_at answers.now place.old)) }
+        ensures run { left self.new result reader.new writer.new ≡ leaves (out_of writer.old) (start_decryption net proposer self.old reader.old) }
+        ensures table { same_table writer.old writer.new }
     {
         if self.had_input {
-            return self.handled(Outcome::Nothing, step);
+            return Ok(None);
         }
         if self.ciphertext == 0 {
-            return self.handled(Outcome::Decryption, step);
+            return Err(Stop::Failed(Failure::Decryption));
         }
-        let removed = self.remove_invalid_shares(answers, place, step, words);
-        let mut td = removed.td;
-        let done = removed.step;
-        let outcome = removed.outcome;
-        let Checked::Done = outcome else {
-            return td.handled(Outcome::Refused, done);
-        };
-        td.had_input = true;
-        if !(net.is_validator() & net.has_key) {
-            return td.try_output(net, proposer, answers, place, done, words);
+        self.remove_invalid_shares(reader, writer)?;
+        self.had_input = true;
+        if net.is_validator() && net.has_key {
+            let (_, share) = reader.ask(AnswerKind::OwnDecryptionShare)?;
+            writer.message(MessageKind::Share, proposer as u64, share);
+            self.shares[net.our_id] = share;
         }
-        match steps::reader::ask_from(answers, place, OWN_DECRYPTION_SHARE) {
-            Answer::Got { a: _, b } => {
-                let sent = done.message(words, SHARE_CONTENT, proposer, b);
-                let own = net.our_id;
-                td.shares[own] = b;
-                td.try_output(net, proposer, answers, place, sent, words)
-            }
-            Answer::Refused => td.handled(Outcome::Refused, done),
-        }
+        self.try_output(net, proposer, reader, writer)
     }
 
-    // Combines the shares, if there is a ciphertext and enough of them. Before that it makes sure that the own share was sent.
-    #[cycle(start_decryption_at_try_output)]
+    // Combines the shares, if there is a ciphertext and enough of them. Before that it makes sure that the own share was sent. A start from here
+    // has no output, since `terminated` is set (law `start_quiet`).
+    #[cycle(start_decryption_try_output)]
     fn try_output(
-        self,
+        &mut self,
         net: NetworkInfo,
-        proposer: u64,
-        answers: &[u64],
-        place: &mut usize,
-        step: Step,
-        words: &mut [u64],
-    ) -> Handled
+        proposer: usize,
+        reader: &mut Reader,
+        writer: &mut Writer,
+    ) -> Result<Option<u64>, Stop>
         requires { Network net }
-        ensures { left result (tape_at answers.now place.new) words.new
-            ≡ leaves (out step words.old) (try_output net proposer self (tape_at answers.now place.old)) }
+        ensures run { left self.new result reader.new writer.new ≡ leaves (out_of writer.old) (try_output net proposer self.old reader.old) }
+        ensures table { same_table writer.old writer.new }
     {
-        let mut td = self;
-        let shares = td.shares;
-        // One test, and one return where nothing is to be started, so that the stack holds the instance once.
-        let combines = !td.terminated & (net.num_faulty < count(shares)) & (td.ciphertext != 0);
-        td.terminated = td.terminated | combines;
-        if combines & !td.had_input {
-            let started = td.start_decryption_at(net, proposer, answers, place, step, words);
-            let outcome = started.outcome;
-            let Outcome::Nothing = outcome else {
-                return started;
-            };
-            let last = started.td;
-            let done = started.step;
-            let combined = combine(answers, place);
-            return last.handled(combined, done);
+        if self.terminated || count(&self.shares) <= net.num_faulty || self.ciphertext == 0 {
+            return Ok(None);
         }
-        let combined = combine_if(combines, answers, place);
-        td.handled(combined, step)
-    }
-
-    // Sends the own share, and tries to combine.
-    pub fn start_decryption(
-        self,
-        net: NetworkInfo,
-        proposer: u64,
-        cursor: &mut Cursor,
-        answers: &[u64],
-        step: Step,
-        words: &mut [u64],
-    ) -> Handled
-        requires { Network net }
-        ensures { (left result (tape_at answers.now cursor.new.place) words.new
-            ≡ leaves (out step words.old) (start_decryption net proposer self (tape_at answers.now cursor.old.place)))
-            × (cursor.new.last ≡ cursor.old.last) }
-    {
-        self.start_decryption_at(net, proposer, answers, &mut cursor.place, step, words)
-    }
-
-    pub fn start_decryption_from(
-        self,
-        net: NetworkInfo,
-        proposer: u64,
-        answers: &[u64],
-        place: &mut usize,
-        step: Step,
-        words: &mut [u64],
-    ) -> Handled
-        requires { Network net }
-        ensures { left result (tape_at answers.now place.new) words.new
-            ≡ leaves (out step words.old) (start_decryption net proposer self (tape_at answers.now place.old)) }
-    {
-        let mut cursor = steps::reader::cursor_at(answers, *place);
-        let started = self.start_decryption(net, proposer, &mut cursor, answers, step, words);
-        *place = cursor.place;
-        started
+        self.terminated = true;
+        self.start_decryption(net, proposer, reader, writer)?;
+        combine(reader)
     }
 
     // Keeps a share. A second one of a sender overwrites the first, and nothing is combined.
     fn store_share(
-        self,
+        &mut self,
         net: NetworkInfo,
-        proposer: u64,
+        proposer: usize,
         sender: usize,
         share: u64,
-        answers: &[u64],
-        place: &mut usize,
-        step: Step,
-        words: &mut [u64],
-    ) -> Handled
+        reader: &mut Reader,
+        writer: &mut Writer,
+    ) -> Result<Option<u64>, Stop>
         requires { Network net × (sender < net.num_nodes) }
-        ensures { left result (tape_at answers.now place.new) words.new
-            ≡ leaves (out step words.old) (store_share net proposer sender share self (tape_at answers.now place.old)) }
+        ensures run { left self.new result reader.new writer.new ≡ leaves (out_of writer.old) (store_share net proposer sender share self.old reader.old) }
+        ensures table { same_table writer.old writer.new }
     {
-        let mut td = self;
-        let old = td.shares[sender];
-        td.shares[sender] = share;
+        let old = self.shares[sender];
+        self.shares[sender] = share;
         if old != 0 {
-            let faulted = step.fault(words, MULTIPLE_DECRYPTION_SHARES, sender as u64, 0);
-            return td.handled(Outcome::Nothing, faulted);
+            writer.fault(FaultKind::MultipleDecryptionShares, sender as u64, 0);
+            return Ok(None);
         }
-        td.try_output(net, proposer, answers, place, step, words)
-    }
-
-    fn handle_message_at(
-        self,
-        net: NetworkInfo,
-        proposer: u64,
-        sender: usize,
-        share: u64,
-        answers: &[u64],
-        place: &mut usize,
-        step: Step,
-        words: &mut [u64],
-    ) -> Handled
-        requires { Network net × (sender < net.num_nodes) }
-        ensures { left result (tape_at answers.now place.new) words.new
-            ≡ leaves (out step words.old) (handle_message net proposer sender share self (tape_at answers.now place.old)) }
-    {
-        if self.terminated {
-            return self.handled(Outcome::Nothing, step);
-        }
-        match self.is_share_valid(sender, answers, place) {
-            Validity::Valid => {
-                self.store_share(net, proposer, sender, share, answers, place, step, words)
-            }
-            Validity::Invalid => {
-                let faulted = step.fault(
-                    words,
-                    UNVERIFIED_DECRYPTION_SHARE_SENDER,
-                    sender as u64,
-                    0,
-                );
-                self.handled(Outcome::Nothing, faulted)
-            }
-            Validity::Refused => self.handled(Outcome::Refused, step),
-        }
+        self.try_output(net, proposer, reader, writer)
     }
 
     // Handles a share that this sender sent. The caller has refused an unknown sender.
     pub fn handle_message(
-        self,
+        &mut self,
         net: NetworkInfo,
-        proposer: u64,
+        proposer: usize,
         sender: usize,
         share: u64,
-        cursor: &mut Cursor,
-        answers: &[u64],
-        step: Step,
-        words: &mut [u64],
-    ) -> Handled
+        reader: &mut Reader,
+        writer: &mut Writer,
+    ) -> Result<Option<u64>, Stop>
         requires { Network net × (sender < net.num_nodes) }
-        ensures { (left result (tape_at answers.now cursor.new.place) words.new
-            ≡ leaves (out step words.old) (handle_message net proposer sender share self (tape_at answers.now cursor.old.place)))
-            × (cursor.new.last ≡ cursor.old.last) }
+        ensures run { left self.new result reader.new writer.new ≡ leaves (out_of writer.old) (handle_message net proposer sender share self.old reader.old) }
+        ensures table { same_table writer.old writer.new }
     {
-        self.handle_message_at(
-            net,
-            proposer,
-            sender,
-            share,
-            answers,
-            &mut cursor.place,
-            step,
-            words,
-        )
-    }
-
-    pub fn handle_message_from(
-        self,
-        net: NetworkInfo,
-        proposer: u64,
-        sender: usize,
-        share: u64,
-        answers: &[u64],
-        place: &mut usize,
-        step: Step,
-        words: &mut [u64],
-    ) -> Handled
-        requires { Network net × (sender < net.num_nodes) }
-        ensures { left result (tape_at answers.now place.new) words.new
-            ≡ leaves (out step words.old) (handle_message net proposer sender share self (tape_at answers.now place.old)) }
-    {
-        let mut cursor = steps::reader::cursor_at(answers, *place);
-        let handled = self.handle_message(
-            net,
-            proposer,
-            sender,
-            share,
-            &mut cursor,
-            answers,
-            step,
-            words,
-        );
-        *place = cursor.place;
-        handled
+        if self.terminated {
+            return Ok(None);
+        }
+        if !self.is_share_valid(sender, reader)? {
+            writer.fault(FaultKind::UnverifiedDecryptionShareSender, sender as u64, 0);
+            return Ok(None);
+        }
+        self.store_share(net, proposer, sender, share, reader, writer)
     }
 }

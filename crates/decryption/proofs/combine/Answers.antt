@@ -1,18 +1,18 @@
--- `combine` meets its contract, by the answer. Assumes nothing.
-use mathlib.Core.Path.{sym, ap}
-use Rattle.steps.specs.Steps.{put_all}
-use Rattle.steps.specs.Runs.{leaves}
-use Rattle.decryption.proofs.CycleCode.{combine_refused, combine_failed, combine_plain}
+-- `combine` meets its contract, by what the answer told. Assumes nothing.
+use borrow.Author.Tests.{eq-eqb, ne_eqb}
+use Rattle.decryption.proofs.Stops.{stops}
+use Rattle.decryption.specs.Decrypt.{combine}
+use Rattle.steps.proofs.LentRuns.{heard_ok, heard_err}
 use Rattle.decryption.proofs.combine.Goals as goal
 
-pub returns-then-a-eq0 : goal.returns-then-a-eq0
-unfolding put_all
-returns-then-a-eq0 c = λ td s w. ap (leaves _) (sym (combine_failed td _ _ _ c.ask_from.ensures _ _ c.in-Got.is c.if-a-eq0.true))
+pub returns-in_err-decrypted : goal.returns-in_err-decrypted
+unfolding combine
+returns-in_err-decrypted c = λ td. rw (stops _ _ c.from_residual.ensures.1) (heard_err _ _ _ _ _ c.in_err-decrypted.ensures)
 
-pub returns-else-a-eq0 : goal.returns-else-a-eq0
-unfolding put_all
-returns-else-a-eq0 c = λ td s w. ap (leaves _) (sym (combine_plain td _ _ _ c.ask_from.ensures _ _ c.in-Got.is c.if-a-eq0.false))
+pub returns-then-decrypted-eq0 : goal.returns-then-decrypted-eq0
+unfolding combine
+returns-then-decrypted-eq0 c = λ td. heard_ok _ _ _ _ _ c.in_ok-decrypted.ensures _ (rw (eq-eqb _ _ c.if-decrypted-eq0.true))
 
-pub returns-in-Refused : goal.returns-in-Refused
-unfolding put_all
-returns-in-Refused c = λ td s w. ap (leaves _) (sym (combine_refused td _ _ _ c.ask_from.ensures c.in-Refused.is))
+pub returns : goal.returns
+unfolding combine
+returns c = λ td. heard_ok _ _ _ _ _ c.in_ok-decrypted.ensures _ (rw (ne_eqb _ _ c.if-decrypted-eq0.false))

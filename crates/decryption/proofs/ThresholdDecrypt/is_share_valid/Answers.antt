@@ -1,17 +1,19 @@
 -- `is_share_valid` meets its contract: no ciphertext yet, or by the answer. Assumes nothing.
-use mathlib.Core.Path.{sym, ◌∙◌}
+use mathlib.Core.Path.{refl}
 use borrow.Author.Tests.{eq-eqb, ne_eqb}
-use Rattle.decryption.proofs.ShareCode.{valid_early, valid_told, valid_refused}
+use Rattle.decryption.proofs.Stops.{stops}
+use Rattle.decryption.specs.Decrypt.{is_share_valid}
+use Rattle.steps.proofs.LentRuns.{heard_ok, heard_err}
 use Rattle.decryption.proofs.ThresholdDecrypt.is_share_valid.Goals as goal
 
 pub returns-then-self-eq0 : goal.returns-then-self-eq0
-returns-then-self-eq0 c = sym (valid_early _ _ _ c.if-self-eq0.true)
+unfolding is_share_valid
+returns-then-self-eq0 c = rw (eq-eqb _ _ c.if-self-eq0.true)
 
-pub returns-then-a-eq0 : goal.returns-then-a-eq0
-returns-then-a-eq0 c = sym (valid_told _ _ _ _ _ c.ask_about_from.ensures c.if-self-eq0.false _ _ c.in-Got.is ∙ rw (eq-eqb _ _ c.if-a-eq0.true))
+pub returns-in_err-verifies : goal.returns-in_err-verifies
+unfolding is_share_valid
+returns-in_err-verifies c = rw (stops _ _ c.from_residual.ensures.1, ne_eqb _ _ c.if-self-eq0.false) (heard_err _ _ _ _ _ c.in_err-verifies.ensures)
 
-pub returns-else-a-eq0 : goal.returns-else-a-eq0
-returns-else-a-eq0 c = sym (valid_told _ _ _ _ _ c.ask_about_from.ensures c.if-self-eq0.false _ _ c.in-Got.is ∙ rw (ne_eqb _ _ c.if-a-eq0.false))
-
-pub returns-in-Refused : goal.returns-in-Refused
-returns-in-Refused c = sym (valid_refused _ _ _ _ _ c.ask_about_from.ensures c.if-self-eq0.false c.in-Refused.is)
+pub returns : goal.returns
+unfolding is_share_valid
+returns c = rw (ne_eqb _ _ c.if-self-eq0.false) (heard_ok _ _ _ _ _ c.in_ok-verifies.ensures _ refl)
