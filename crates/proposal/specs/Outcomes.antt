@@ -1,8 +1,13 @@
--- A step of a proposal that goes on.
-use Rattle.std.specs.Prelude.{ℕ, Option, Ok}
+-- A step of a proposal in the code.
+use Rattle.std.specs.Prelude.{ℕ, Option, Result, Ok}
+use Rattle.steps.specs.declared.kinds.Stop.{Stop}
 use Rattle.proposal.specs.declared.ProposalState.{ProposalState}
 use Rattle.proposal.specs.declared.proposal_state.Transition.{Transition}
+use Rattle.proposal.specs.Proposal.{Moved}
 
--- to this state, with the value that is output, if one is
-abbrev pub goes_on : ProposalState → Option ℕ → Transition
-goes_on s value = record { state = s; outcome = Ok value }
+abbrev pub transition : ProposalState → Result (Option ℕ) Stop → Transition
+transition s outcome = record { state = s; outcome = outcome }
+
+-- a proposal that has moved goes on with the value that it outputs, or without one
+abbrev pub transition_of : Moved → Transition
+transition_of m = transition m.state (Ok m.value)

@@ -1,13 +1,12 @@
 // A proposal, after proposal_state.rs. Each step takes the old state and hands back the new one. `error` is the failure that the caller
 // gives the error of an instance.
 ghost use Rattle.std.specs.Prelude.{◌≡◌, true};
-ghost use Rattle.steps.specs.Numbers.{propose_false};
 ghost use Rattle.steps.specs.Kinds.{answer_number, failure_number};
 ghost use Rattle.steps.specs.Written.{left, out_of, same_table};
 ghost use Rattle.steps.specs.Runs.{leaves};
 ghost use Rattle.proposal.specs.declared.ProposalState.{ProposalState};
 ghost use Rattle.proposal.specs.Proposal.{received, accepted, complete, asks_agreement, asks_broadcast, after_agreement, instance_answer, after_value, handle_agreement, handle_broadcast};
-ghost use Rattle.proposal.specs.Outcomes.{goes_on};
+ghost use Rattle.proposal.specs.Outcomes.{transition, transition_of};
 
 use crate::ProposalState;
 use steps::kinds::{AnswerKind, Failure, Stop};
@@ -89,34 +88,36 @@ impl ProposalState {
         matches!(self, ProposalState::Ongoing | ProposalState::Accepted)
     }
 
-    // The step to this state, with the value that the proposal outputs, if it does.
-    fn goes_on(self, value: Option<u64>) -> Transition
-        ensures { result ≡ goes_on self value }
+    // The step to this state.
+    fn transition(self, outcome: Result<Option<u64>, Stop>) -> Transition
+        ensures { result ≡ transition self outcome }
     {
         Transition {
             state: self,
-            outcome: Ok(value),
+            outcome,
         }
     }
 
     // The agreement's output, if it had one, is the decision.
     #[tactic(auto, unfolding(crate::specs::Proposal::after_agreement))]
     fn after_agreement(self, output: Option<u64>) -> Transition
-        ensures { result ≡ (let m = after_agreement self output in goes_on m.state m.value) }
+        ensures { result ≡ transition_of (after_agreement self output) }
     {
         match (self, output) {
             (ProposalState::Ongoing | ProposalState::HasValue(_), Some(0)) => {
-                ProposalState::Complete(false).goes_on(None)
+                ProposalState::Complete(false).transition(Ok(None))
             }
-            (ProposalState::Ongoing, Some(_)) => ProposalState::Accepted.goes_on(None),
+            (ProposalState::Ongoing, Some(_)) => ProposalState::Accepted.transition(Ok(None)),
             (ProposalState::HasValue(value), Some(_)) => {
-                ProposalState::Complete(true).goes_on(Some(value))
+                ProposalState::Complete(true).transition(Ok(Some(value)))
             }
-            (_, _) => self.goes_on(None),
+            (_, _) => self.transition(Ok(None)),
         }
     }
 
-    // Asks the agreement instance, and updates the state according to the outcome.
+    // Asks the agreement instance, and updates the state according to the outcome. Kind `ProposeFalse` is a vote for rejecting the
+    // proposal (`vote_false`).
+    #[tactic(auto, unfolding(crate::specs::Proposal::handle_agreement, steps::specs::Steps::put_all))]
     pub fn handle_agreement(
         self,
         error: Failure,
@@ -130,30 +131,12 @@ impl ProposalState {
         ensures table { same_table writer.old writer.new }
     {
         if !self.asks_agreement() {
-            return self.goes_on(None);
+            return self.transition(Ok(None));
         }
         match instance_answer(error, proposer, kind, Content::Agreement, reader, writer) {
             Ok(output) => self.after_agreement(output),
-            Err(stop) => Transition {
-                state: self,
-                outcome: Err(stop),
-            },
+            Err(stop) => self.transition(Err(stop)),
         }
-    }
-
-    // Votes for rejecting the proposal, if still possible.
-    pub fn vote_false(
-        self,
-        error: Failure,
-        proposer: usize,
-        reader: &mut Reader,
-        writer: &mut Writer,
-    ) -> Transition
-        ensures run { left result.state result.outcome reader.new writer.new
-            ≡ leaves (out_of writer.old) (handle_agreement (failure_number error) proposer propose_false self reader.old) }
-        ensures table { same_table writer.old writer.new }
-    {
-        self.handle_agreement(error, proposer, AnswerKind::ProposeFalse, reader, writer)
     }
 
     // The broadcast's output, if it had one, is the value. While the agreement is undecided it earns a vote 1.
@@ -177,13 +160,14 @@ impl ProposalState {
                 received.handle_agreement(error, proposer, AnswerKind::ProposeTrue, reader, writer)
             }
             (ProposalState::Accepted, Some(value)) => {
-                ProposalState::Complete(true).goes_on(Some(value))
+                ProposalState::Complete(true).transition(Ok(Some(value)))
             }
-            (_, _) => self.goes_on(None),
+            (_, _) => self.transition(Ok(None)),
         }
     }
 
     // Asks the broadcast instance, and updates the state according to the outcome.
+    #[tactic(auto, unfolding(crate::specs::Proposal::handle_broadcast, steps::specs::Steps::put_all))]
     pub fn handle_broadcast(
         self,
         error: Failure,
@@ -197,14 +181,11 @@ impl ProposalState {
         ensures table { same_table writer.old writer.new }
     {
         if !self.asks_broadcast() {
-            return self.goes_on(None);
+            return self.transition(Ok(None));
         }
         match instance_answer(error, proposer, kind, Content::Broadcast, reader, writer) {
             Ok(output) => self.after_value(error, proposer, output, reader, writer),
-            Err(stop) => Transition {
-                state: self,
-                outcome: Err(stop),
-            },
+            Err(stop) => self.transition(Err(stop)),
         }
     }
 }

@@ -5,14 +5,10 @@ use Rattle.steps.proofs.LentRuns.{onward_ok, onward_err}
 use Rattle.proposal.specs.Proposal.{handle_agreement, answer_agreement}
 use Rattle.proposal.proofs.ProposalState.handle_agreement.Goals as goal
 
-pub returns-then-not-asks_agreement-clause-run : goal.returns-then-not-asks_agreement-clause-run
-unfolding handle_agreement put_all
-returns-then-not-asks_agreement-clause-run c = rw (c.goes_on.ensures, sym c.asks_agreement.ensures ∙ c.if-not-asks_agreement.true)
-
 pub returns-in-Ok-clause-run : goal.returns-in-Ok-clause-run
 unfolding handle_agreement answer_agreement put_all
 returns-in-Ok-clause-run c = rw (c.after_agreement.ensures, sym c.asks_agreement.ensures ∙ c.if-not-asks_agreement.false) (onward_ok c.args.self _ _ _ c.instance_answer.new.writer _ _ (c.in-Ok.ensures.run _) _ refl)
 
 pub returns-in-Err-clause-run : goal.returns-in-Err-clause-run
 unfolding handle_agreement answer_agreement
-returns-in-Err-clause-run c = rw (sym c.asks_agreement.ensures ∙ c.if-not-asks_agreement.false) (onward_err _ _ _ _ c.instance_answer.new.writer _ _ (c.in-Err.ensures.run _))
+returns-in-Err-clause-run c = rw (c.transition-in-Err.ensures, sym c.asks_agreement.ensures ∙ c.if-not-asks_agreement.false) (onward_err _ _ _ _ c.instance_answer.new.writer _ _ (c.in-Err.ensures.run _))

@@ -1,13 +1,8 @@
 -- `handle_broadcast` meets its contract: the proposal does not ask, or by what the instance has told. Assumes nothing.
 use mathlib.Core.Path.{sym, ◌∙◌}
-use Rattle.steps.specs.Steps.{put_all}
 use Rattle.steps.proofs.LentRuns.{onward_ok, onward_err}
 use Rattle.proposal.specs.Proposal.{handle_broadcast, answer_broadcast}
 use Rattle.proposal.proofs.ProposalState.handle_broadcast.Goals as goal
-
-pub returns-then-not-asks_broadcast-clause-run : goal.returns-then-not-asks_broadcast-clause-run
-unfolding handle_broadcast put_all
-returns-then-not-asks_broadcast-clause-run c = rw (c.goes_on.ensures, sym c.asks_broadcast.ensures ∙ c.if-not-asks_broadcast.true)
 
 pub returns-in-Ok-clause-run : goal.returns-in-Ok-clause-run
 unfolding handle_broadcast answer_broadcast
@@ -15,4 +10,4 @@ returns-in-Ok-clause-run c = rw (sym c.asks_broadcast.ensures ∙ c.if-not-asks_
 
 pub returns-in-Err-clause-run : goal.returns-in-Err-clause-run
 unfolding handle_broadcast answer_broadcast
-returns-in-Err-clause-run c = rw (sym c.asks_broadcast.ensures ∙ c.if-not-asks_broadcast.false) (onward_err _ _ _ _ c.instance_answer.new.writer _ _ (c.in-Err.ensures.run _))
+returns-in-Err-clause-run c = rw (c.transition-in-Err.ensures, sym c.asks_broadcast.ensures ∙ c.if-not-asks_broadcast.false) (onward_err _ _ _ _ c.instance_answer.new.writer _ _ (c.in-Err.ensures.run _))
