@@ -167,7 +167,7 @@ unsettled (suc m) p h = refl
 
 pub new_over : (net : NetworkInfo) → Network net → is_over net nothing nothing ≡ false
 unfolding is_over
-new_over net k = rw (unsettled net.num_nodes 0 k.Some)
+new_over net k = rw (unsettled net.num_nodes 0 k.some)
 
 pub new_word : (n i : ℕ) → (i ≡ 0 → ⊥) → get_or (new_epoch n) i 0 ≡ 0
 unfolding new_epoch

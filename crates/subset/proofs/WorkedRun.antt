@@ -52,7 +52,7 @@ unfolding opened taken_by settled_from is_over
 four_over = (refl, refl)
 
 pub four_network : Network four
-four_network = record { Some = omega arith; sixteen = omega arith; faulty = omega arith; own = omega arith }
+four_network = record { some = omega arith; sixteen = omega arith; faulty = omega arith; own = omega arith }
 
 pub four_tables : tables_ok 4 (earlier ++ (third ∷ [])) ≡ true
 unfolding opened tables_ok
