@@ -1,299 +1,191 @@
-// A proposal, after proposal_state.rs. Each step takes the old state and hands back the new one. `error` is the number that the caller
-// gives a failure.
+// A proposal, after proposal_state.rs. Each step takes the old state and hands back the new one. `error` is the failure that the caller
+// gives the error of an instance.
 ghost use Rattle.std.specs.Prelude.{◌≡◌, true};
-ghost use Rattle.steps.specs.Numbers.{propose_false};
-ghost use Rattle.steps.specs.Answers.{tape_at};
-ghost use Rattle.steps.specs.Steps.{out};
+ghost use Rattle.steps.specs.Kinds.{answer_number, failure_number};
+ghost use Rattle.steps.specs.Written.{left, out_of, same_table};
 ghost use Rattle.steps.specs.Runs.{leaves};
+ghost use Rattle.proposal.specs.declared.ProposalState.{ProposalState};
 ghost use Rattle.proposal.specs.Proposal.{received, accepted, complete, asks_agreement, asks_broadcast, after_agreement, instance_answer, after_value, handle_agreement, handle_broadcast};
-ghost use Rattle.proposal.specs.Outcomes.{transition, transition_of, left_told, left};
+ghost use Rattle.proposal.specs.Outcomes.{transition, transition_of};
 
 use crate::ProposalState;
-use steps::numbers::{PROPOSE_FALSE, PROPOSE_TRUE};
-use steps::reader::{Answer, Content};
-use steps::step::Step;
+use steps::kinds::{AnswerKind, Failure, Stop};
+use steps::reader::{Content, Reader};
+use steps::step::Writer;
 
-// What an instance's answer comes to: its last output, a wanted answer that is not there, or the instance's error.
-#[derive(Clone, Copy)]
-pub enum Told {
-    Output(Option<u64>),
-    Refused,
-    Failed(u64),
-}
-
-#[derive(Clone, Copy)]
-pub struct InstanceAnswer {
-    pub outcome: Told,
-    pub step: Step,
-}
-
-// What a step of a proposal comes to: no output, the value that it outputs, a wanted answer that is not there, or a failure.
-#[derive(Clone, Copy)]
-pub enum Outcome {
-    Nothing,
-    Value(u64),
-    Refused,
-    Failed(u64),
-}
-
+// What a step of a proposal comes to. Its state is kept beside a refusal or a failure too, so that it is no part of the result.
 #[derive(Clone, Copy)]
 pub struct Transition {
     pub state: ProposalState,
-    pub outcome: Outcome,
-    pub step: Step,
+    // The value that it outputs, if it does.
+    pub outcome: Result<Option<u64>, Stop>,
+}
+
+// `convert_bc` and `convert_ba`: the answer of an instance, and its last output.
+fn instance_answer(
+    error: Failure,
+    proposer: usize,
+    kind: AnswerKind,
+    content: Content,
+    reader: &mut Reader,
+    writer: &mut Writer,
+) -> Result<Option<u64>, Stop>
+    ensures run { (s : ProposalState) → left s result reader.new writer.new
+        ≡ leaves (out_of writer.old) (instance_answer (failure_number error) proposer (answer_number kind) content s reader.old) }
+    ensures table { same_table writer.old writer.new }
+{
+    let (a, _) = reader.ask_about(kind, proposer)?;
+    if a == 0 {
+        return Err(Stop::Failed(error));
+    }
+    Ok(reader.read_parts(content, proposer, writer))
 }
 
 impl ProposalState {
     // Whether we already received the broadcast's result.
+    #[tactic(auto, unfolding(crate::specs::Proposal::received))]
     pub fn received(self) -> bool
         ensures { result ≡ received self }
     {
-        match self {
-            ProposalState::Ongoing => false,
-            ProposalState::HasValue(_) => true,
-            ProposalState::Accepted => false,
-            ProposalState::Complete(accepted) => accepted,
-        }
+        matches!(
+            self,
+            ProposalState::HasValue(_) | ProposalState::Complete(true)
+        )
     }
 
     // Whether this proposal has been accepted, even if we don't have the value yet.
+    #[tactic(auto, unfolding(crate::specs::Proposal::accepted))]
     pub fn accepted(self) -> bool
         ensures { result ≡ accepted self }
     {
-        match self {
-            ProposalState::Ongoing => false,
-            ProposalState::HasValue(_) => false,
-            ProposalState::Accepted => true,
-            ProposalState::Complete(accepted) => accepted,
-        }
+        matches!(
+            self,
+            ProposalState::Accepted | ProposalState::Complete(true)
+        )
     }
 
     // Whether this proposal has been rejected, or accepted and output.
+    #[tactic(auto, unfolding(crate::specs::Proposal::complete))]
     pub fn complete(self) -> bool
         ensures { result ≡ complete self }
     {
-        match self {
-            ProposalState::Ongoing => false,
-            ProposalState::HasValue(_) => false,
-            ProposalState::Accepted => false,
-            ProposalState::Complete(_) => true,
-        }
+        matches!(self, ProposalState::Complete(_))
     }
 
-    // Whether the agreement instance is still called.
+    // Whether the agreement instance is still called. The value alone decides nothing.
+    #[tactic(auto, unfolding(crate::specs::Proposal::asks_agreement))]
     pub fn asks_agreement(self) -> bool
         ensures { result ≡ asks_agreement self }
     {
-        match self {
-            ProposalState::Ongoing => true,
-            ProposalState::HasValue(_) => true, // the value alone decides nothing
-            ProposalState::Accepted => false,
-            ProposalState::Complete(_) => false,
-        }
+        matches!(self, ProposalState::Ongoing | ProposalState::HasValue(_))
     }
 
-    // Whether the broadcast instance is still called.
+    // Whether the broadcast instance is still called, for a value that is not here yet.
+    #[tactic(auto, unfolding(crate::specs::Proposal::asks_broadcast))]
     pub fn asks_broadcast(self) -> bool
         ensures { result ≡ asks_broadcast self }
     {
-        match self {
-            ProposalState::Ongoing => true,
-            ProposalState::HasValue(_) => false, // the value is here
-            ProposalState::Accepted => true,
-            ProposalState::Complete(_) => false,
-        }
+        matches!(self, ProposalState::Ongoing | ProposalState::Accepted)
     }
 
-    // The result with these parts.
-    fn transition(self, outcome: Outcome, step: Step) -> Transition
-        ensures { result ≡ transition self outcome step }
+    // The step to this state.
+    fn transition(self, outcome: Result<Option<u64>, Stop>) -> Transition
+        ensures { result ≡ transition self outcome }
     {
         Transition {
             state: self,
             outcome,
-            step,
-        }
-    }
-
-    // `convert_bc` and `convert_ba`: the answer of an instance, and its last output.
-    fn instance_answer(
-        self,
-        error: u64,
-        proposer: u64,
-        kind: u64,
-        content: Content,
-        answers: &[u64],
-        place: &mut usize,
-        step: Step,
-        words: &mut [u64],
-    ) -> InstanceAnswer
-        ensures { left_told self result (tape_at answers.now place.new) words.new
-            ≡ leaves (out step words.old) (instance_answer error proposer kind content self (tape_at answers.now place.old)) }
-    {
-        match steps::reader::ask_about_from(answers, place, kind, proposer) {
-            Answer::Got { a, b: _ } => {
-                if a == 0 {
-                    return InstanceAnswer {
-                        outcome: Told::Failed(error),
-                        step,
-                    };
-                }
-                let parts = steps::reader::read_parts_from(
-                    answers, place, content, proposer, step, words,
-                );
-                let output = parts.output;
-                let done = parts.step;
-                InstanceAnswer {
-                    outcome: Told::Output(output),
-                    step: done,
-                }
-            }
-            Answer::Refused => InstanceAnswer {
-                outcome: Told::Refused,
-                step,
-            },
         }
     }
 
     // The agreement's output, if it had one, is the decision.
-    fn after_agreement(self, output: Option<u64>, step: Step) -> Transition
-        ensures { result ≡ transition_of (after_agreement self output) step }
+    #[tactic(auto, unfolding(crate::specs::Proposal::after_agreement))]
+    fn after_agreement(self, output: Option<u64>) -> Transition
+        ensures { result ≡ transition_of (after_agreement self output) }
     {
-        match self {
-            ProposalState::Ongoing => match output {
-                None => self.transition(Outcome::Nothing, step),
-                Some(decision) => {
-                    if decision == 0 {
-                        return ProposalState::Complete(false).transition(Outcome::Nothing, step);
-                    }
-                    ProposalState::Accepted.transition(Outcome::Nothing, step)
-                }
-            },
-            ProposalState::HasValue(value) => match output {
-                None => self.transition(Outcome::Nothing, step),
-                Some(decision) => {
-                    if decision == 0 {
-                        return ProposalState::Complete(false).transition(Outcome::Nothing, step);
-                    }
-                    ProposalState::Complete(true).transition(Outcome::Value(value), step)
-                }
-            },
-            ProposalState::Accepted => self.transition(Outcome::Nothing, step),
-            ProposalState::Complete(_) => self.transition(Outcome::Nothing, step),
+        match (self, output) {
+            (ProposalState::Ongoing | ProposalState::HasValue(_), Some(0)) => {
+                ProposalState::Complete(false).transition(Ok(None))
+            }
+            (ProposalState::Ongoing, Some(_)) => ProposalState::Accepted.transition(Ok(None)),
+            (ProposalState::HasValue(value), Some(_)) => {
+                ProposalState::Complete(true).transition(Ok(Some(value)))
+            }
+            (_, _) => self.transition(Ok(None)),
         }
     }
 
-    // Asks the agreement instance, and updates the state according to the outcome.
+    // Asks the agreement instance, and updates the state according to the outcome. Kind `ProposeFalse` is a vote for rejecting the
+    // proposal (`vote_false`).
+    #[tactic(auto, unfolding(crate::specs::Proposal::handle_agreement, steps::specs::Steps::put_all))]
     pub fn handle_agreement(
         self,
-        error: u64,
-        proposer: u64,
-        kind: u64,
-        answers: &[u64],
-        place: &mut usize,
-        step: Step,
-        words: &mut [u64],
+        error: Failure,
+        proposer: usize,
+        kind: AnswerKind,
+        reader: &mut Reader,
+        writer: &mut Writer,
     ) -> Transition
-        ensures { left result (tape_at answers.now place.new) words.new
-            ≡ leaves (out step words.old) (handle_agreement error proposer kind self (tape_at answers.now place.old)) }
+        ensures run { left result.state result.outcome reader.new writer.new
+            ≡ leaves (out_of writer.old) (handle_agreement (failure_number error) proposer (answer_number kind) self reader.old) }
+        ensures table { same_table writer.old writer.new }
     {
         if !self.asks_agreement() {
-            return self.transition(Outcome::Nothing, step);
+            return self.transition(Ok(None));
         }
-        let content = Content::Agreement;
-        let answer = self.instance_answer(
-            error, proposer, kind, content, answers, place, step, words,
-        );
-        let outcome = answer.outcome;
-        let done = answer.step;
-        match outcome {
-            Told::Output(output) => self.after_agreement(output, done),
-            Told::Refused => self.transition(Outcome::Refused, done),
-            Told::Failed(number) => self.transition(Outcome::Failed(number), done),
+        match instance_answer(error, proposer, kind, Content::Agreement, reader, writer) {
+            Ok(output) => self.after_agreement(output),
+            Err(stop) => self.transition(Err(stop)),
         }
-    }
-
-    // Votes for rejecting the proposal, if still possible.
-    pub fn vote_false(
-        self,
-        error: u64,
-        proposer: u64,
-        answers: &[u64],
-        place: &mut usize,
-        step: Step,
-        words: &mut [u64],
-    ) -> Transition
-        ensures { left result (tape_at answers.now place.new) words.new
-            ≡ leaves (out step words.old) (handle_agreement error proposer propose_false self (tape_at answers.now place.old)) }
-    {
-        self.handle_agreement(error, proposer, PROPOSE_FALSE, answers, place, step, words)
     }
 
     // The broadcast's output, if it had one, is the value. While the agreement is undecided it earns a vote 1.
+    #[tactic(auto, unfolding(crate::specs::Proposal::after_value, crate::specs::Proposal::after_broadcast, crate::specs::Proposal::vote_true, crate::specs::Proposal::asks_agreement, crate::specs::Proposal::asks_broadcast, crate::specs::Proposal::handle_agreement, steps::specs::Steps::put_all))]
     fn after_value(
         self,
-        error: u64,
-        proposer: u64,
+        error: Failure,
+        proposer: usize,
         output: Option<u64>,
-        answers: &[u64],
-        place: &mut usize,
-        step: Step,
-        words: &mut [u64],
+        reader: &mut Reader,
+        writer: &mut Writer,
     ) -> Transition
         requires { asks_broadcast self ≡ true }
-        ensures { left result (tape_at answers.now place.new) words.new
-            ≡ leaves (out step words.old) (after_value error proposer self output (tape_at answers.now place.old)) }
+        ensures run { left result.state result.outcome reader.new writer.new
+            ≡ leaves (out_of writer.old) (after_value (failure_number error) proposer self output reader.old) }
+        ensures table { same_table writer.old writer.new }
     {
-        match output {
-            None => self.transition(Outcome::Nothing, step),
-            Some(value) => match self {
-                ProposalState::Ongoing => ProposalState::HasValue(value).handle_agreement(
-                    error,
-                    proposer,
-                    PROPOSE_TRUE,
-                    answers,
-                    place,
-                    step,
-                    words,
-                ),
-                ProposalState::Accepted => {
-                    ProposalState::Complete(true).transition(Outcome::Value(value), step)
-                }
-                ProposalState::HasValue(_) => self.transition(Outcome::Nothing, step),
-                ProposalState::Complete(_) => self.transition(Outcome::Nothing, step),
-            },
+        match (self, output) {
+            (ProposalState::Ongoing, Some(value)) => {
+                let received = ProposalState::HasValue(value);
+                received.handle_agreement(error, proposer, AnswerKind::ProposeTrue, reader, writer)
+            }
+            (ProposalState::Accepted, Some(value)) => {
+                ProposalState::Complete(true).transition(Ok(Some(value)))
+            }
+            (_, _) => self.transition(Ok(None)),
         }
     }
 
     // Asks the broadcast instance, and updates the state according to the outcome.
+    #[tactic(auto, unfolding(crate::specs::Proposal::handle_broadcast, steps::specs::Steps::put_all))]
     pub fn handle_broadcast(
         self,
-        error: u64,
-        proposer: u64,
-        kind: u64,
-        answers: &[u64],
-        place: &mut usize,
-        step: Step,
-        words: &mut [u64],
+        error: Failure,
+        proposer: usize,
+        kind: AnswerKind,
+        reader: &mut Reader,
+        writer: &mut Writer,
     ) -> Transition
-        ensures { left result (tape_at answers.now place.new) words.new
-            ≡ leaves (out step words.old) (handle_broadcast error proposer kind self (tape_at answers.now place.old)) }
+        ensures run { left result.state result.outcome reader.new writer.new
+            ≡ leaves (out_of writer.old) (handle_broadcast (failure_number error) proposer (answer_number kind) self reader.old) }
+        ensures table { same_table writer.old writer.new }
     {
         if !self.asks_broadcast() {
-            return self.transition(Outcome::Nothing, step);
+            return self.transition(Ok(None));
         }
-        let content = Content::Broadcast;
-        let answer = self.instance_answer(
-            error, proposer, kind, content, answers, place, step, words,
-        );
-        let outcome = answer.outcome;
-        let done = answer.step;
-        match outcome {
-            Told::Output(output) => {
-                self.after_value(error, proposer, output, answers, place, done, words)
-            }
-            Told::Refused => self.transition(Outcome::Refused, done),
-            Told::Failed(number) => self.transition(Outcome::Failed(number), done),
+        match instance_answer(error, proposer, kind, Content::Broadcast, reader, writer) {
+            Ok(output) => self.after_value(error, proposer, output, reader, writer),
+            Err(stop) => self.transition(Err(stop)),
         }
     }
 }

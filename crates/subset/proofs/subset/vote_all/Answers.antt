@@ -1,27 +1,20 @@
 -- `vote_all` meets its contract. The invariant: what the votes from here on leave is what all votes leave. Assumes nothing.
-use Prim.Native.Nat.{◌+◌, ◌-◌}
-use mathlib.Core.Path.{refl, sym, ap, ◌∙◌}
-use native.Mathlib.Omega.{arith}
+use mathlib.Core.Path.{refl}
+use Rattle.std.proofs.lemmas.Result.{err_from_is_err_and}
 use borrow.Author.Rules.{rules}
-use Rattle.steps.specs.Answers.{tape_at}
 use Rattle.steps.specs.Steps.{put_all}
-use Rattle.steps.specs.Runs.{leaves}
-use Rattle.steps.proofs.RunLaws.{onward_go, onward_stop}
-use Rattle.subset.specs.Subset.{vote_from}
-use Rattle.subset.specs.Outcomes.{passing_verdict}
-use Rattle.subset.proofs.WordsCode.{all_left}
-use Rattle.subset.proofs.SubsetCode.{not_passed, vote_turn, vote_done}
+use Rattle.steps.proofs.LentRuns.{onward_ok, onward_err}
+use Rattle.subset.proofs.SubsetCode.{vote_turn, vote_done}
 use Rattle.subset.proofs.subset.vote_all.Goals as goal
 
-pub loop-p-init : goal.loop-p-init
-loop-p-init c = (omega arith, refl, refl, rw (all_left c.args.net.num_nodes))
-
-pub returns-in_default : goal.returns-in_default
-returns-in_default c = onward_stop _ _ _ _ c.vote_false-voted.ensures (not_passed c.vote_false-voted.result.outcome c.in_default.not-Done) ∙ (ap (leaves _) (sym (vote_turn c.args.net c.args.error c.args.net.num_nodes c.loop-p.p c.loop-p.epoch (tape_at c.args.answers.now c.loop-p.place) c.loop-p-test.true)) ∙ c.loop-p.invariant.3)
+pub returns-in_err-answer_at-clause-run : goal.returns-in_err-answer_at-clause-run
+returns-in_err-answer_at-clause-run c =
+    let p = err_from_is_err_and c.from_residual.result c.from_residual.ensures.1 in
+    rw (p.1, p.2, ← c.loop-p.invariant.2, vote_turn _ _ _ _ _ _ c.loop-p-test.true) (onward_err _ _ _ _ c.answer_at.new.writer _ _ c.in_err-answer_at.ensures.run)
 
 pub loop-p-preserved : goal.loop-p-preserved
-loop-p-preserved c = (omega arith, search rules, search rules, onward_go _ _ _ (λ _ w t. vote_from c.args.net c.args.error (c.args.net.num_nodes - (c.loop-p.p + 1)) (c.loop-p.p + 1) w t) c.vote_false-voted.ensures tt (ap passing_verdict c.in-Done.is) ∙ (ap (leaves _) (sym (vote_turn c.args.net c.args.error c.args.net.num_nodes c.loop-p.p c.loop-p.epoch (tape_at c.args.answers.now c.loop-p.place) c.loop-p-test.true)) ∙ c.loop-p.invariant.3))
+loop-p-preserved c = (search rules, search rules, rw (← c.loop-p.invariant.2, vote_turn _ _ _ _ _ _ c.loop-p-test.true) (onward_ok _ _ _ _ c.answer_at.new.writer _ _ c.in_ok-answer_at.ensures.run _ refl))
 
-pub returns : goal.returns
+pub returns-clause-run : goal.returns-clause-run
 unfolding put_all
-returns c = ap (leaves _) (sym (vote_done c.args.net c.args.error c.args.net.num_nodes c.loop-p.p c.loop-p.epoch (tape_at c.args.answers.now c.loop-p.place) c.loop-p-test.false)) ∙ c.loop-p.invariant.3
+returns-clause-run c = rw (← c.loop-p.invariant.2, vote_done _ _ _ _ _ _ c.loop-p-test.false)

@@ -1,0 +1,21 @@
+-- `propose` meets its contract: an observer, or the own proposal is broadcast. Assumes nothing.
+use mathlib.Core.Path.{sym, ◌∙◌}
+use Rattle.std.proofs.lemmas.Result.{err_from_is_err_and}
+use Rattle.steps.specs.Steps.{put_all}
+use Rattle.steps.proofs.LentRuns.{onward_ok, onward_err}
+use Rattle.subset.specs.Subset.{propose}
+use Rattle.subset.proofs.subset.propose.Goals as goal
+
+pub returns-then-not-is_validator-clause-run : goal.returns-then-not-is_validator-clause-run
+unfolding propose put_all
+returns-then-not-is_validator-clause-run c = rw (sym c.is_validator.ensures ∙ c.if-not-is_validator.true)
+
+pub returns-in_err-answer_at-clause-run : goal.returns-in_err-answer_at-clause-run
+unfolding propose
+returns-in_err-answer_at-clause-run c =
+    let p = err_from_is_err_and c.from_residual.result c.from_residual.ensures.1 in
+    rw (p.1, p.2, sym c.is_validator.ensures ∙ c.if-not-is_validator.false) (onward_err _ _ _ _ c.answer_at.new.writer _ _ c.in_err-answer_at.ensures.run)
+
+pub returns-clause-run : goal.returns-clause-run
+unfolding propose
+returns-clause-run c = rw (sym c.is_validator.ensures ∙ c.if-not-is_validator.false) (onward_ok _ _ _ _ c.answer_at.new.writer _ _ c.in_ok-answer_at.ensures.run _ c.try_output.ensures.run)
