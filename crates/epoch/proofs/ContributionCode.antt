@@ -1,11 +1,11 @@
 -- Contributions and the end of `process_subset`: what the code leaves, case by case. Assumes nothing.
-use Prim.Native.Nat.{ℕ, suc, ◌+◌, ◌-◌, ◌<◌, ◌≤◌}
+use Prim.Native.Nat.{ℕ, zero, suc, ◌+◌, ◌-◌, ◌<◌, ◌≤◌}
 use native.Mathlib.Omega.{arith}
 use mathlib.Core.Path.{◌≡◌, refl, sym, ap, ◌∙◌}
-use mathlib.Core.List.{List}
+use mathlib.Core.List.{List, [], ◌∷◌, ◌++◌, append-nil}
 use mathlib.Core.Bool.{Bool, true, false, cond}
-use lib.ListN.{length, get_or, set}
-use lib.Seq.{get_or-set_same, get_or-set_other, set_out}
+use lib.ListN.{length, get_or, set, drop, replicate, length-replicate}
+use lib.Seq.{get_or-set_same, get_or-set_other, set_out, set_at, drop-cons, drop-length}
 use lib.Dec.{eqb, ltb}
 use borrow.Author.Tests.{eqb-true, eqb-false, ltb-true, ltb-false}
 use Rattle.network.specs.declared.network_info.NetworkInfo.{NetworkInfo}
@@ -14,26 +14,17 @@ use Rattle.steps.specs.Steps.{Out, put_all}
 use Rattle.steps.specs.Runs.{Verdict, going, ends, onward_as, onward, Left, leaves}
 use Rattle.steps.proofs.RunLaws.{onward_go, onward_stop}
 use Rattle.decryption.specs.Decrypt.{new}
-use Rattle.subset.specs.Words.{epoch_length, count_at, value_at, arrival_at, contributor, drop_from, record_at}
+use Rattle.subset.specs.Words.{epoch_length, new_epoch, count_at, value_at, arrival_at, contributor, drop_from, record_at}
 use Rattle.epochwords.specs.declared.SubsetHandlingStrategy.{SubsetHandlingStrategy}
 use Rattle.epochwords.specs.declared.SubsetHandlingStrategy.TheVariants.{Incremental, AllAtEnd}
-use Rattle.epoch.specs.declared.epoch_state.Outcome.{Outcome}
-use Rattle.epoch.specs.declared.epoch_state.Outcome.TheVariants.{Done, Refused, Failed}
 use Rattle.epochwords.specs.Shape.{Listed}
 use Rattle.epochwords.specs.Words.{accept, DecryptionState, store_entry, store_decryption, entry_complete}
 use Rattle.epoch.specs.Epoch.{handles_now, subset_complete, send_decryption_share, finish_from, handle_contribution, handle_from, handle_contributions, process_subset}
-use Rattle.epoch.specs.Outcomes.{outcome_verdict, left_done}
 use Rattle.steps.proofs.Logic.{anything}
 use Rattle.steps.proofs.StateKept.{still}
 use Rattle.epoch.proofs.Walk.{Handles, holds, handles_hold, contribution_keeps, handle_from_keeps}
 use Rattle.epochwords.proofs.EntryCode.{epoch_small, record_inside}
 use Rattle.epochwords.proofs.EntryStored.{accept_word, store_low, store_subset}
-
--- the way of a `let Outcome::Done = x else` that is not taken
-pub not_done : (x : Outcome) → (x ≡ Done → ⊥) → (a : Unit {0}) → outcome_verdict x ≡ going a → ⊥
-not_done Done h a e = h refl
-not_done Refused h a e = let z : ◌≡◌ {A = ℕ} 0 1 = cc in omega arith
-not_done (Failed n) h a e = let z : ◌≡◌ {A = ℕ} 0 1 = cc in omega arith
 
 -- the record at which the i-th contribution's proposer stands and that proposer's own are inside the epoch, which is small
 pub records_inside : (n i k : ℕ) (w : List ℕ) → n ≤ 16 → i < k → k ≤ n → ((j : ℕ) → j < n → contributor n w j < n)
@@ -70,23 +61,6 @@ module _ (net : NetworkInfo) (strategy : SubsetHandlingStrategy) (encrypted : Bo
   pub kept_from : (m i : ℕ) (w : List ℕ) (t : Tape) (o : Out) (d : Left (List ℕ) (Unit {0})) → d ≡ leaves o (handle_from net strategy encrypted m i w t)
       → Listed net.num_nodes w → Listed net.num_nodes d.state
   kept_from m i w t o d e h = rw e (handle_from_keeps _ _ _ net (rules _) strategy encrypted m i 0 w t h)
-
--- ONE CONTRIBUTION
-module _ (net : NetworkInfo) (strategy : SubsetHandlingStrategy) (encrypted : Bool) (p value : ℕ) (w : List ℕ) (t : Tape) (o : Out) where
-  pub plain_done : encrypted ≡ false → (mid : List ℕ) → mid ≡ store_entry net.num_nodes w p entry_complete value new → (after : List ℕ) → after ≡ accept mid p
-      → left_done after t o ≡ leaves o (handle_contribution net strategy encrypted p value w t)
-  unfolding handle_contribution onward onward_as store_decryption put_all
-  plain_done e mid m after a = rw (e, a, m)
-
-  module _ (e : encrypted ≡ true) (d : Left (List ℕ) (Unit {0})) (k : d ≡ leaves o (send_decryption_share net p value w t)) where
-    pub sent_stops : ((a : Unit {0}) → d.verdict ≡ going a → ⊥) → d ≡ leaves o (handle_contribution net strategy encrypted p value w t)
-    unfolding handle_contribution
-    sent_stops n = rw e (onward_stop d o _ _ k n)
-
-    pub sent_goes : d.verdict ≡ going tt → (after : List ℕ) → after ≡ accept d.state p
-        → record { state = after; verdict = d.verdict; tape = d.tape; out = d.out } ≡ leaves o (handle_contribution net strategy encrypted p value w t)
-    unfolding handle_contribution put_all
-    sent_goes n after a = rw (e, n, a) (onward_go d o (send_decryption_share net p value w t) (λ _ w t. ends {A = Unit {0}} (going tt) (accept w p) t) k tt n)
 
 -- one more of the m contributions
 module _ (net : NetworkInfo) (strategy : SubsetHandlingStrategy) (encrypted : Bool) (m i : ℕ) (w : List ℕ) (t : Tape) where
@@ -133,38 +107,21 @@ cut_who n i w h f j l =
     set_below (set w (value_at n (contributor n w i)) 0) (arrival_at n i) (arrival_at n j) 0 n (omega arith)
     (set_below w (value_at n (contributor n w i)) (arrival_at n j) 0 n (omega arith) (f j l))
 
--- WHAT A CALL OF THE SUBSET HANDED UP is handled
-pub waits : (strategy : SubsetHandlingStrategy) (done : Bool) → handles_now strategy done ≡ false → done ≡ false
-unfolding handles_now
-waits Incremental done e = let z : ◌≡◌ {A = Bool} true false = e in absurd (truth z)
-  where
-    truth : ◌≡◌ {A = Bool} true false → ⊥
-    truth e = let z : ◌≡◌ {A = ℕ} 0 1 = cc in omega arith
-waits AllAtEnd done e = e
+-- A NEW EPOCH: one word more is 0
+zeros_more : (i : ℕ) (l : List ℕ) → replicate i 0 ++ (0 ∷ l) ≡ replicate (suc i) 0 ++ l
+zeros_more zero l = refl
+zeros_more (suc i) l = ap (λ (m : List ℕ). 0 ∷ m) (zeros_more i l)
 
-module _ (net : NetworkInfo) (strategy : SubsetHandlingStrategy) (encrypted done : Bool) (w : List ℕ) (t : Tape) where
-  pub subset_waits : handles_now strategy done ≡ false → process_subset net strategy encrypted done w t ≡ ends (going tt) w t
-  unfolding process_subset onward onward_as
-  subset_waits e = rw (e, waits strategy done e)
+pub zero_turn : (i : ℕ) (w now : List ℕ) → i < length w → now ≡ replicate i 0 ++ drop i w → set now i 0 ≡ replicate (i + 1) 0 ++ drop (i + 1) w
+zero_turn i w now h e =
+    let s : i + 1 ≡ suc i = omega arith in
+    rw (e, s, drop-cons w i 0 h)
+    (set_at (replicate i 0) (get_or w i 0) (drop (suc i) w) 0 i (length-replicate i 0) ∙ zeros_more i (drop (suc i) w))
 
-  module _ (now : handles_now strategy done ≡ true) (o : Out) (d : Left (List ℕ) (Unit {0})) (k : d ≡ leaves o (handle_contributions net strategy encrypted w t)) where
-    pub subset_stops : ((a : Unit {0}) → d.verdict ≡ going a → ⊥) → d ≡ leaves o (process_subset net strategy encrypted done w t)
-    unfolding process_subset
-    subset_stops n = rw now (onward_stop d o _ _ k n)
-
-    pub subset_goes : d.verdict ≡ going tt → done ≡ false → d ≡ leaves o (process_subset net strategy encrypted done w t)
-    unfolding process_subset put_all
-    subset_goes n f =
-        rw now
-        (ap (λ (v : Verdict (Unit {0})). record { state = d.state; verdict = v; tape = d.tape; out = d.out }) n
-        ∙ ap (λ (b : Bool). leaves d.out (cond b (finish_from net net.num_nodes 0 (subset_complete d.state) d.tape) (ends (going tt) d.state d.tape))) (sym f)
-        ∙ onward_go d o (handle_contributions net strategy encrypted w t) (λ _ w t. cond done (finish_from net net.num_nodes 0 (subset_complete w) t) (ends (going tt) w t)) k tt n)
-
-    pub subset_done : d.verdict ≡ going tt → done ≡ true → (x : Left (List ℕ) (Unit {0})) → x ≡ leaves d.out (finish_from net net.num_nodes 0 (subset_complete d.state) d.tape)
-        → x ≡ leaves o (process_subset net strategy encrypted done w t)
-    unfolding process_subset
-    subset_done n f x e =
-        rw now
-        (e
-        ∙ ap (λ (b : Bool). leaves d.out (cond b (finish_from net net.num_nodes 0 (subset_complete d.state) d.tape) (ends (going tt) d.state d.tape))) (sym f)
-        ∙ onward_go d o (handle_contributions net strategy encrypted w t) (λ _ w t. cond done (finish_from net net.num_nodes 0 (subset_complete w) t) (ends (going tt) w t)) k tt n)
+pub zero_done : (n i : ℕ) (w now : List ℕ) → length w ≡ epoch_length n → i ≤ length w → length w ≤ i → now ≡ replicate i 0 ++ drop i w → set now 0 1 ≡ new_epoch n
+unfolding new_epoch
+zero_done n i w now l a b e =
+    let z : i ≡ epoch_length n = omega arith in
+    let d : drop i w ≡ [] = ap (λ (k : ℕ). drop k w) (z ∙ sym l) ∙ drop-length w in
+    let f : now ≡ replicate (epoch_length n) 0 = e ∙ ap (λ (m : List ℕ). replicate i 0 ++ m) d ∙ append-nil (replicate i 0) ∙ ap (λ (k : ℕ). replicate k 0) z in
+    ap (λ (m : List ℕ). set m 0 1) f

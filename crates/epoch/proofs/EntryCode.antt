@@ -14,38 +14,11 @@ use Rattle.steps.specs.Steps.{Entry, Out, put_entry, put_all, fault}
 use Rattle.steps.specs.Runs.{Verdict, going, refused, failed, Run, ends, onward_as, onward, Left, leaves}
 use Rattle.steps.proofs.RunLaws.{leaves_before, heard_got, heard_none}
 use Rattle.decryption.specs.declared.ThresholdDecrypt.{ThresholdDecrypt}
-use Rattle.decryption.specs.declared.SetCiphertext.{SetCiphertext}
-use Rattle.decryption.specs.declared.SetOutcome.TheVariants.{Set, Invalid, MultipleInputs, Refused as NoneSet}
 use Rattle.decryption.specs.Decrypt.{new, set_ciphertext, start_decryption, handle_message as handle_share}
-use Rattle.decryption.specs.Outcomes.{left_set}
-use Rattle.epoch.specs.declared.epoch_state.Outcome.TheVariants.{Done, Refused, Failed}
-use Rattle.epoch.specs.declared.epoch_state.Called.{Called}
-use Rattle.epoch.specs.declared.epoch_state.Called.TheVariants.{Nothing, Plaintext, Refused as NotCalled, Failed as CallFailed}
 use Rattle.epochwords.specs.Words.{is_complete, is_accepted, asks, decryption_at, load_entry, store_entry, store_decryption, entry_ongoing, entry_complete}
 use Rattle.epoch.specs.Epoch.{entry_after, process_decryption, call_entry, input_ciphertext, send_decryption_share, handle_decryption_share}
-use Rattle.epoch.specs.Outcomes.{called_verdict, left_of}
 
 module _ (net : NetworkInfo) (p : ℕ) (w : List ℕ) where
-  -- THE ENTRY IS STORED, by what its call came to
-  module _ (td : ThresholdDecrypt) (c : Called) (after : List ℕ) where
-    module _ (stored : after ≡ store_entry net.num_nodes w p entry_ongoing 0 td) (t : Tape) (o : Out) where
-      pub process_nothing : c ≡ Nothing → left_of after Done t o ≡ leaves o (process_decryption net p w (ends (called_verdict c) td t))
-      unfolding process_decryption onward onward_as entry_after store_decryption put_all
-      process_nothing e = rw (e, stored)
-
-      pub process_refused : c ≡ NotCalled → left_of after Refused t o ≡ leaves o (process_decryption net p w (ends (called_verdict c) td t))
-      unfolding process_decryption onward onward_as entry_after store_decryption put_all
-      process_refused e = rw (e, stored)
-
-      pub process_failed : (error : ℕ) → c ≡ CallFailed error → left_of after (Failed error) t o ≡ leaves o (process_decryption net p w (ends (called_verdict c) td t))
-      unfolding process_decryption onward onward_as entry_after store_decryption put_all
-      process_failed error e = rw (e, stored)
-
-    pub process_complete : (x : ℕ) → after ≡ store_entry net.num_nodes w p entry_complete x new → (t : Tape) (o : Out) → c ≡ Plaintext x
-        → left_of after Done t o ≡ leaves o (process_decryption net p w (ends (called_verdict c) td t))
-    unfolding process_decryption onward onward_as entry_after store_decryption put_all
-    process_complete x stored t o e = rw (e, stored)
-
   -- from what the call left: its entries are put already
   pub process_left : (d : Left ThresholdDecrypt (Option ℕ)) (o : Out) (r : Run ThresholdDecrypt (Option ℕ)) → d ≡ leaves o r
       → leaves d.out (process_decryption net p w (ends d.verdict d.state d.tape)) ≡ leaves o (process_decryption net p w r)
@@ -71,38 +44,6 @@ module _ (net : NetworkInfo) (p : ℕ) (w : List ℕ) where
     pub call_goes : asks (get_or w (decryption_at net.num_nodes p) 0) ≡ true → call_entry net p call w t ≡ process_decryption net p w (call (load_entry net.num_nodes w p) t)
     unfolding call_entry
     call_goes e = rw e
-
--- A CIPHERTEXT, by what setting it came to
-module _ (net : NetworkInfo) (p value : ℕ) (td : ThresholdDecrypt) (t : Tape) (s : SetCiphertext) (q : Tape) (k : left_set s q ≡ set_ciphertext p value td t) where
-  pub input_set : s.outcome ≡ Set → input_ciphertext net p value td t ≡ start_decryption net p s.td q
-  unfolding input_ciphertext onward onward_as
-  input_set n = rw (← k, n)
-
-  pub input_invalid : s.outcome ≡ Invalid → (o u : Out) → u ≡ put_entry o (fault 4 p 0) → leaves u (ends {A = Option ℕ} (going None) s.td q) ≡ leaves o (input_ciphertext net p value td t)
-  unfolding input_ciphertext onward onward_as put_all
-  input_invalid n o u m = rw (← k, n, m)
-
-  pub input_twice : s.outcome ≡ MultipleInputs → input_ciphertext net p value td t ≡ ends (failed 25) s.td q
-  unfolding input_ciphertext onward onward_as
-  input_twice n = rw (← k, n)
-
-  pub input_refused : s.outcome ≡ NoneSet → input_ciphertext net p value td t ≡ ends refused s.td q
-  unfolding input_ciphertext onward onward_as
-  input_refused n = rw (← k, n)
-
--- A CONTRIBUTION, by the answer on whether its ciphertext reads
-module _ (net : NetworkInfo) (p value : ℕ) (w : List ℕ) (t : Tape) (x : Answer) (q : Tape) (k : asked x q ≡ ask_about t 8 p) where
-  pub send_refused : x ≡ NoAnswer → send_decryption_share net p value w t ≡ ends refused w q
-  unfolding send_decryption_share
-  send_refused e = heard_none _ x q w _ k e
-
-  pub send_bad : (a b : ℕ) → x ≡ Got a b → a ≡ 0 → (o u : Out) → u ≡ put_entry o (fault 3 p 0) → leaves u (ends {A = Unit {0}} (going tt) w q) ≡ leaves o (send_decryption_share net p value w t)
-  unfolding send_decryption_share put_all
-  send_bad a b e z o u m = rw (heard_got _ x q w _ k a b e, eq-eqb _ _ z, m)
-
-  pub send_good : (a b : ℕ) → x ≡ Got a b → (a ≡ 0 → ⊥) → send_decryption_share net p value w t ≡ call_entry net p (input_ciphertext net p value) w q
-  unfolding send_decryption_share
-  send_good a b e z = heard_got _ x q w _ k a b e ∙ rw (ne_eqb _ _ z)
 
 -- A SHARE
 module _ (net : NetworkInfo) (sender p share : ℕ) (w : List ℕ) (t : Tape) where

@@ -10,14 +10,13 @@ use borrow.Author.Tests.{ne_eqb}
 use Rattle.network.specs.declared.network_info.NetworkInfo.{NetworkInfo}
 use Rattle.steps.specs.Answers.{Tape}
 use Rattle.steps.specs.Steps.{Out, put_entry, put_all, fault}
-use Rattle.steps.specs.Runs.{going, ends, leaves}
+use Rattle.steps.specs.Runs.{going, ends, Left, leaves}
 use Rattle.steps.proofs.ChainLaws.{put_all_append}
 use Rattle.steps.proofs.RunLaws.{leaves_before, onward_go}
 use Rattle.decryption.specs.declared.ThresholdDecrypt.{ThresholdDecrypt}
 use Rattle.decryption.specs.Decrypt.{new, is_sender}
 use Rattle.epochwords.specs.Words.{is_accepted, missing, complete, decryption_at, plaintext_at, load_instance, load_decryption, store_entry, store_decryption, entry_none, entry_ongoing}
 use Rattle.epoch.specs.Epoch.{unexpected_from, unexpected_shares, proposal_dropped, finish_at, finish_from}
-use Rattle.epoch.specs.Outcomes.{left_done}
 
 pub dropped : (n p : ℕ) (w : List ℕ) → set (set w (16 + p * (8 + n)) 0) (16 + p * (8 + n) + 1) 0 ≡ proposal_dropped n w p
 unfolding proposal_dropped
@@ -66,29 +65,33 @@ module _ (n p : ℕ) (w : List ℕ) where
       go true = refl
       go false = refl
 
+-- what is left where nothing is asked
+abbrev done : List ℕ → Tape → Out → Left (List ℕ) (Unit {0})
+done w t o = record { state = w; verdict = going tt; tape = t; out = o }
+
 -- ONE PROPOSER'S END, and one more
 module _ (net : NetworkInfo) (p : ℕ) (w : List ℕ) (t : Tape) (o : Out) where
-  pub finish_accepted : is_accepted w p ≡ true → (after : List ℕ) → after ≡ proposal_dropped net.num_nodes w p → left_done after t o ≡ leaves o (finish_at net p w t)
+  pub finish_accepted : is_accepted w p ≡ true → (after : List ℕ) → after ≡ proposal_dropped net.num_nodes w p → done after t o ≡ leaves o (finish_at net p w t)
   unfolding finish_at put_all
   finish_accepted e after m = rw (e, m)
 
   pub finish_other : is_accepted w p ≡ false → (u : Out) → u ≡ put_all o (unexpected_shares net.num_nodes (load_decryption net.num_nodes w p))
       → (mid : List ℕ) → mid ≡ proposal_dropped net.num_nodes w p → (after : List ℕ) → after ≡ store_entry net.num_nodes mid p entry_none 0 new
-      → left_done after t u ≡ leaves o (finish_at net p w t)
+      → done after t u ≡ leaves o (finish_at net p w t)
   unfolding finish_at store_decryption put_all
   finish_other e u k mid m after a = rw (e, k, a, m)
       (sym (leaves_before o (unexpected_shares net.num_nodes (load_decryption net.num_nodes w p))
       (ends {A = Unit {0}} (going tt) (store_entry net.num_nodes (proposal_dropped net.num_nodes w p) p entry_none 0 new) t)))
 
   module _ (n : ℕ) where
-    pub finish_turn : p < n → (after : List ℕ) (u : Out) → left_done after t u ≡ leaves o (finish_at net p w t)
+    pub finish_turn : p < n → (after : List ℕ) (u : Out) → done after t u ≡ leaves o (finish_at net p w t)
         → leaves u (finish_from net (n - (p + 1)) (p + 1) after t) ≡ leaves o (finish_from net (n - p) p w t)
     unfolding finish_from
     finish_turn h after u d =
         let e : n - p ≡ suc (n - (p + 1)) = omega arith in
-        rw e (onward_go (left_done after t u) o (finish_at net p w t) (λ _ w t. finish_from net (n - (p + 1)) (p + 1) w t) d tt refl)
+        rw e (onward_go (done after t u) o (finish_at net p w t) (λ _ w t. finish_from net (n - (p + 1)) (p + 1) w t) d tt refl)
 
-    pub finish_done : n ≤ p → left_done w t o ≡ leaves o (finish_from net (n - p) p w t)
+    pub finish_done : n ≤ p → done w t o ≡ leaves o (finish_from net (n - p) p w t)
     unfolding finish_from put_all
     finish_done h =
         let e : n - p ≡ 0 = omega arith in
