@@ -64,13 +64,13 @@ module _ (net : NetworkInfo) (strategy : SubsetHandlingStrategy) (encrypted : Bo
 
 -- one more of the m contributions
 module _ (net : NetworkInfo) (strategy : SubsetHandlingStrategy) (encrypted : Bool) (m i : ℕ) (w : List ℕ) (t : Tape) where
-  pub each_turn : i < m → handle_from net strategy encrypted (m - i) i w t
-      ≡ onward (handle_contribution net strategy encrypted (contributor net.num_nodes w i) (get_or w (value_at net.num_nodes (contributor net.num_nodes w i)) 0) w t)
-      (λ _ w t. handle_from net strategy encrypted (m - (i + 1)) (i + 1) w t)
+  pub each_turn : i < m → (p value : ℕ) → p ≡ contributor net.num_nodes w i → value ≡ get_or w (value_at net.num_nodes p) 0
+      → handle_from net strategy encrypted (m - i) i w t
+      ≡ onward (handle_contribution net strategy encrypted p value w t) (λ _ w t. handle_from net strategy encrypted (m - (i + 1)) (i + 1) w t)
   unfolding handle_from
-  each_turn h =
+  each_turn h p value a b =
       let e : m - i ≡ suc (m - (i + 1)) = omega arith in
-      rw e
+      rw (e, b, a)
 
   pub each_done : m ≤ i → handle_from net strategy encrypted (m - i) i w t ≡ ends (going tt) w t
   unfolding handle_from
@@ -106,6 +106,14 @@ pub cut_who : (n i : ℕ) (w : List ℕ) → i < n → ((j : ℕ) → j < n → 
 cut_who n i w h f j l =
     set_below (set w (value_at n (contributor n w i)) 0) (arrival_at n i) (arrival_at n j) 0 n (omega arith)
     (set_below w (value_at n (contributor n w i)) (arrival_at n j) 0 n (omega arith) (f j l))
+
+-- and the list stays one
+pub listed_cut : (n i : ℕ) (w : List ℕ) → i < n → Listed n w → Listed n (set (set w (value_at n (contributor n w i)) 0) (arrival_at n i) 0)
+listed_cut n i w l h =
+    record {
+      count = rw (get_or-set_other (set w (value_at n (contributor n w i)) 0) (arrival_at n i) count_at 0 0 (λ e. omega arith), get_or-set_other w (value_at n (contributor n w i)) count_at 0 0 (λ e. omega arith)) h.count;
+      who = cut_who n i w l h.who;
+    }
 
 -- A NEW EPOCH: one word more is 0
 zeros_more : (i : ℕ) (l : List ℕ) → replicate i 0 ++ (0 ∷ l) ≡ replicate (suc i) 0 ++ l

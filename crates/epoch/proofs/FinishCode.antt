@@ -18,12 +18,6 @@ use Rattle.decryption.specs.Decrypt.{new, is_sender}
 use Rattle.epochwords.specs.Words.{is_accepted, missing, complete, decryption_at, plaintext_at, load_instance, load_decryption, store_entry, store_decryption, entry_none, entry_ongoing}
 use Rattle.epoch.specs.Epoch.{unexpected_from, unexpected_shares, proposal_dropped, finish_at, finish_from}
 
-pub dropped : (n p : ℕ) (w : List ℕ) → set (set w (16 + p * (8 + n)) 0) (16 + p * (8 + n) + 1) 0 ≡ proposal_dropped n w p
-unfolding proposal_dropped
-dropped n p w =
-    let z : 16 + p * (8 + n) + 0 ≡ 16 + p * (8 + n) = omega arith in
-    rw z
-
 -- FAULTS 2 of the senders of shares: one sender, and one more
 module _ (td : ThresholdDecrypt) (i : ℕ) (o : Out) where
   pub unexpected_some : is_sender td i ≡ true → (u : Out) → u ≡ put_entry o (fault 2 i 0) → u ≡ put_all o (unexpected_from 1 i td)

@@ -4,9 +4,8 @@ ghost use Rattle.network.specs.Network.{Network};
 ghost use Rattle.steps.specs.Answers.{Tape};
 ghost use Rattle.steps.specs.Kinds.{verdict_of};
 ghost use Rattle.steps.specs.Runs.{ends, leaves};
-ghost use Rattle.steps.specs.Steps.{Out, put_all};
+ghost use Rattle.steps.specs.Steps.{put_all};
 ghost use Rattle.steps.specs.Written.{out_of, same_table, left, left_reading};
-ghost use Rattle.steps.specs.declared.step.Writer.{Writer};
 ghost use Rattle.decryption.specs.Decrypt.{handle_message as handle_share};
 ghost use Rattle.epochwords.specs.Shape.{EpochWords, Listed};
 ghost use Rattle.subset.specs.Words.{count_of, value_at, arrival_at, contributor};
@@ -58,21 +57,21 @@ fn process_decryption(
     called: Result<Option<u64>, Stop>,
 ) -> Result<(), Stop>
     requires { EpochWords net.num_nodes epoch.old × (p < net.num_nodes) }
-    ensures { (t : Tape) (w : Writer) → left epoch.new result t w
-        ≡ leaves (out_of w) (process_decryption net p epoch.old (ends (verdict_of called) td.now t)) }
+    ensures { (t : Tape) → left_reading epoch.new result t ≡ process_decryption net p epoch.old (ends (verdict_of called) td.now t) }
 {
     let n = net.num_nodes;
-    if let Ok(Some(plaintext)) = called {
-        store_entry(
-            epoch,
-            n,
-            p,
-            ENTRY_COMPLETE,
-            plaintext,
-            ThresholdDecrypt::new(),
-        );
-    } else {
-        store_entry(epoch, n, p, ENTRY_ONGOING, 0, *td);
+    match called.unwrap_or(None) {
+        Some(plaintext) => {
+            store_entry(
+                epoch,
+                n,
+                p,
+                ENTRY_COMPLETE,
+                plaintext,
+                ThresholdDecrypt::new(),
+            )
+        }
+        None => store_entry(epoch, n, p, ENTRY_ONGOING, 0, *td),
     }
     called?;
     Ok(())
@@ -92,8 +91,8 @@ fn input_ciphertext(
         ≡ leaves (out_of writer.old) (input_ciphertext net p value td.old reader.old) }
     ensures table { same_table writer.old writer.new }
 {
-    if td.lent_set_ciphertext(p, value, reader)? {
-        return td.lent_start_decryption(net, p, reader, writer);
+    if td.set_ciphertext(p, value, reader)? {
+        return td.start_decryption(net, p, reader, writer);
     }
     writer.fault(FaultKind::InvalidCiphertext, p as u64, 0);
     Ok(None)
@@ -142,7 +141,7 @@ fn share_entry(
         return Ok(());
     }
     let mut td = load_entry(epoch, n, p);
-    let called = td.lent_handle_message(net, p, sender, share, reader, writer);
+    let called = td.handle_message(net, p, sender, share, reader, writer);
     process_decryption(epoch, net, p, &td, called)
 }
 
