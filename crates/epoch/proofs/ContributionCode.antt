@@ -14,7 +14,7 @@ use Rattle.steps.specs.Steps.{Out, put_all}
 use Rattle.steps.specs.Runs.{Verdict, going, ends, onward_as, onward, Left, leaves}
 use Rattle.steps.proofs.RunLaws.{onward_go, onward_stop}
 use Rattle.decryption.specs.Decrypt.{new}
-use Rattle.subset.specs.Words.{epoch_length, new_epoch, count_at, value_at, arrival_at, contributor, drop_from, record_at}
+use Rattle.subset.specs.Words.{epoch_length, count_at, value_at, arrival_at, contributor, drop_from, record_at}
 use Rattle.epochwords.specs.declared.SubsetHandlingStrategy.{SubsetHandlingStrategy}
 use Rattle.epochwords.specs.declared.SubsetHandlingStrategy.TheVariants.{Incremental, AllAtEnd}
 use Rattle.epochwords.specs.Shape.{Listed}
@@ -114,22 +114,3 @@ listed_cut n i w l h =
       count = rw (get_or-set_other (set w (value_at n (contributor n w i)) 0) (arrival_at n i) count_at 0 0 (λ e. omega arith), get_or-set_other w (value_at n (contributor n w i)) count_at 0 0 (λ e. omega arith)) h.count;
       who = cut_who n i w l h.who;
     }
-
--- A NEW EPOCH: one word more is 0
-zeros_more : (i : ℕ) (l : List ℕ) → replicate i 0 ++ (0 ∷ l) ≡ replicate (suc i) 0 ++ l
-zeros_more zero l = refl
-zeros_more (suc i) l = ap (λ (m : List ℕ). 0 ∷ m) (zeros_more i l)
-
-pub zero_turn : (i : ℕ) (w now : List ℕ) → i < length w → now ≡ replicate i 0 ++ drop i w → set now i 0 ≡ replicate (i + 1) 0 ++ drop (i + 1) w
-zero_turn i w now h e =
-    let s : i + 1 ≡ suc i = omega arith in
-    rw (e, s, drop-cons w i 0 h)
-    (set_at (replicate i 0) (get_or w i 0) (drop (suc i) w) 0 i (length-replicate i 0) ∙ zeros_more i (drop (suc i) w))
-
-pub zero_done : (n i : ℕ) (w now : List ℕ) → length w ≡ epoch_length n → i ≤ length w → length w ≤ i → now ≡ replicate i 0 ++ drop i w → set now 0 1 ≡ new_epoch n
-unfolding new_epoch
-zero_done n i w now l a b e =
-    let z : i ≡ epoch_length n = omega arith in
-    let d : drop i w ≡ [] = ap (λ (k : ℕ). drop k w) (z ∙ sym l) ∙ drop-length w in
-    let f : now ≡ replicate (epoch_length n) 0 = e ∙ ap (λ (m : List ℕ). replicate i 0 ++ m) d ∙ append-nil (replicate i 0) ∙ ap (λ (k : ℕ). replicate k 0) z in
-    ap (λ (m : List ℕ). set m 0 1) f
