@@ -7,31 +7,22 @@ use native.Mathlib.Omega.{arith}
 use native.Mathlib.Nat.{mul-le-mul_right, suc-mul}
 use lib.ListN.{length}
 use lib.Count.{ones}
-use borrow.Author.Tests.{eq-eqb, ne_eqb}
-use Rattle.steps.specs.Numbers.{node_limit, contribution_reads, batch_deserialization_failed, batch_output, entry_output}
-use Rattle.steps.specs.declared.reader.Answer.{Answer}
-use Rattle.steps.specs.declared.reader.Answer.TheVariants.{Got, Refused as NoAnswer}
-use Rattle.steps.specs.Answers.{Tape, asked, ask_about}
-use Rattle.steps.specs.Steps.{Out, put_entry, put_all, fault, output}
-use Rattle.steps.specs.Runs.{going, refused, ends, before, onward, leaves}
-use Rattle.steps.specs.Bits.{has_bit, with_bit, count_bits}
-use Rattle.steps.proofs.RunLaws.{heard_got, heard_none, leaves_before}
+use Rattle.steps.specs.Numbers.{node_limit, batch_output, entry_output}
+use Rattle.steps.specs.Answers.{Tape}
+use Rattle.steps.specs.Steps.{Out, put_entry, put_all, output}
+use Rattle.steps.specs.Runs.{going, ends, before, onward, leaves}
+use Rattle.steps.specs.Bits.{has_bit, count_bits}
+use Rattle.steps.proofs.RunLaws.{leaves_before}
 use Rattle.subset.specs.Words.{field_at}
 use Rattle.steps.proofs.AfterRun.{after_out}
 use Rattle.epochwords.specs.Words.{is_accepted, is_settled, decryption_in, plaintext_in, plaintext_field}
-use Rattle.epochwords.specs.Batch.{decrypted_from, is_read, read_at, read_from, entries_from}
-use Rattle.epochwords.specs.BatchOutcomes.{Records, read_verdict}
-use Rattle.epochwords.specs.declared.batch.Reading.{Reading}
-use Rattle.epochwords.specs.declared.batch.Reading.TheVariants.{Readable, Refused as NotRead}
+use Rattle.epochwords.specs.Batch.{decrypted_from, read_at, read_from, entries_from}
+use Rattle.epochwords.specs.Shape.{Records}
 use Rattle.epochwords.proofs.Readable.{entries_ones}
 
 -- before the first turn of a loop, n are left
 pub all_left : (n : ℕ) → n - 0 ≡ n
 all_left n = omega arith
-
--- p's record is inside
-pub record_here : (size n p : ℕ) (w : List ℕ) → Records size n w → p < n → (p < node_limit) × (field_at size p plaintext_field < length w)
-record_here size n p w h l = (omega (arith, h.few), omega (arith, h.fields, h.long, mul-le-mul_right size l, suc-mul p size))
 
 module _ (size n p : ℕ) (w : List ℕ) where
   -- READY: one proposer more, who is awaited or not
@@ -64,26 +55,6 @@ module _ (size n p : ℕ) (w : List ℕ) where
       let e : n - p ≡ 0 = omega arith in
       rw e
 
--- READING one proposer's contribution
-module _ (size p readable : ℕ) (w : List ℕ) (t : Tape) where
-  pub read_off : is_read size w p ≡ false → ends (going readable) w t ≡ read_at size p readable w t
-  unfolding read_at
-  read_off e = rw e
-
-  module _ (x : Answer) (q : Tape) (k : asked x q ≡ ask_about t contribution_reads p) (on : is_read size w p ≡ true) where
-    pub read_refused : x ≡ NoAnswer → ends refused w q ≡ read_at size p readable w t
-    unfolding read_at
-    read_refused e = rw on (sym (heard_none _ x q w _ k e))
-
-    pub read_good : (a b : ℕ) → x ≡ Got a b → (a ≡ 0 → ⊥) → ends (going (with_bit readable p)) w q ≡ read_at size p readable w t
-    unfolding read_at
-    read_good a b e z = rw on (sym (heard_got _ x q w _ k a b e ∙ rw (ne_eqb _ _ z)))
-
-    pub read_bad : (a b : ℕ) → x ≡ Got a b → a ≡ 0 → (o u : Out) → u ≡ put_entry o (fault batch_deserialization_failed p 0)
-        → leaves u (ends (going readable) w q) ≡ leaves o (read_at size p readable w t)
-    unfolding read_at put_all
-    read_bad a b e z o u m = rw (on, heard_got _ x q w _ k a b e, eq-eqb _ _ z, m)
-
 -- one proposer more
 module _ (size n p readable : ℕ) (w : List ℕ) (t : Tape) where
   pub reads_turn : p < n → read_from size (n - p) p readable w t ≡ onward (read_at size p readable w t) (λ readable w q. read_from size (n - (p + 1)) (p + 1) readable w q)
@@ -97,10 +68,6 @@ module _ (size n p readable : ℕ) (w : List ℕ) (t : Tape) where
   reads_over l =
       let e : n - p ≡ 0 = omega arith in
       rw e
-
-pub not_read : (x : Reading) → ((bits : ℕ) → x ≡ Readable bits → ⊥) → (a : ℕ) → read_verdict x ≡ going a → ⊥
-not_read (Readable bits) h a e = h bits refl
-not_read NotRead h a e = let z : ◌≡◌ {A = ℕ} 0 1 = cc in omega arith
 
 -- ENTRIES: one proposer more
 module _ (size n p readable : ℕ) (w : List ℕ) (o : Out) where

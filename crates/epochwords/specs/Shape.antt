@@ -1,10 +1,18 @@
 -- What the code requires of an epoch's words. The range rule has it (`Words.epoch_in_range`).
-use Rattle.std.specs.Prelude.{ℕ, ◌<◌, ◌≤◌, List}
+use Rattle.std.specs.Prelude.{ℕ, ◌+◌, ◌*◌, ◌<◌, ◌≤◌, List, length}
+use Rattle.steps.specs.Numbers.{node_limit}
 -- the words of an epoch of n nodes
 pub use Rattle.subset.specs.Outcomes.{EpochWords}
-use Rattle.subset.specs.Words.{count_of, contributor}
+use Rattle.subset.specs.Words.{count_of, contributor, records_at}
+use Rattle.epochwords.specs.Words.{plaintext_field}
 
 -- the list of contributions has at most n, each of one of the n proposers
 pub record Listed (n : ℕ) (w : List ℕ) : Type 0 where
   pub count : count_of w ≤ n
   pub who : (i : ℕ) → i < n → contributor n w i < n
+
+-- words with n records of `size` words each, which reach as far as the plaintext
+pub record Records (size n : ℕ) (w : List ℕ) : Type 0 where
+  pub few : n ≤ node_limit
+  pub fields : plaintext_field + 1 ≤ size
+  pub long : records_at + n * size ≤ length w

@@ -2,51 +2,24 @@
 // a proposer's record in them.
 ghost use Rattle.std.specs.Prelude.{◌≡◌, ◌&&◌, not, ◌<◌, length};
 ghost use Rattle.steps.specs.Numbers.{node_limit};
-ghost use Rattle.steps.specs.Answers.{tape_at};
-ghost use Rattle.steps.specs.Steps.{out, put_all};
+ghost use Rattle.steps.specs.Steps.{put_all};
 ghost use Rattle.steps.specs.Runs.{leaves};
+ghost use Rattle.steps.specs.Written.{out_of, same_table, left};
 ghost use Rattle.subset.specs.Words.{field_at};
+ghost use Rattle.epochwords.specs.Shape.{Records};
 ghost use Rattle.epochwords.specs.Words.{is_accepted, is_settled, decryption_in, plaintext_field};
 ghost use Rattle.epochwords.specs.Batch.{is_ready_in, is_read, read_at, read_from, entries_from, output_batch_in};
-ghost use Rattle.epochwords.specs.BatchOutcomes.{Records, left_read, left_batch};
 
 use crate::tags::{is_open, is_settled};
 use crate::words::{ACCEPTED_AT, DECRYPTION_FIELD, PLAINTEXT_FIELD, STATUS_AT, STATUS_COMPLETE};
 use steps::bits::{has_bit, with_bit};
-use steps::numbers::{
-    BATCH_DESERIALIZATION_FAILED, BATCH_OUTPUT, CONTRIBUTION_READS, ENTRY_OUTPUT,
-};
-use steps::reader::{Answer, Cursor};
-use steps::step::Step;
+use steps::kinds::{AnswerKind, FaultKind, OutputKind, Stop};
+use steps::reader::Reader;
+use steps::step::Writer;
 use subset::words::RECORDS_AT;
 
-// What reading contributions comes to: the readable proposers, a word of bits, or a wanted answer that is not there.
-#[derive(Clone, Copy)]
-pub enum Reading {
-    Readable(u64),
-    Refused,
-}
-
-#[derive(Clone, Copy)]
-pub struct Read {
-    pub outcome: Reading,
-    pub step: Step,
-}
-
-// What handing out a batch comes to.
-#[derive(Clone, Copy)]
-pub enum Handed {
-    Done,
-    Refused,
-}
-
-#[derive(Clone, Copy)]
-pub struct Batch {
-    pub outcome: Handed,
-    pub step: Step,
-}
-
 // Whether the epoch waits for the contribution of proposer p.
+#[tactic(auto, unfolding(crate::specs::Words::is_accepted))]
 fn is_awaited(epoch: &[u64], size: usize, p: usize) -> bool
     requires { (p < node_limit) × (field_at size p plaintext_field < length epoch.now) }
     ensures { result ≡ (is_accepted epoch.now p && not (is_settled (decryption_in size epoch.now p))) }
@@ -56,6 +29,7 @@ fn is_awaited(epoch: &[u64], size: usize, p: usize) -> bool
 }
 
 // Whether the subset is done, and the epoch waits for no accepted contribution.
+#[tactic(auto, using(crate::proofs::BatchCode::ready_awaits, crate::proofs::BatchCode::ready_turn, crate::proofs::BatchCode::ready_over), unfolding(crate::specs::Batch::is_ready_in))]
 pub fn is_ready(epoch: &[u64], size: usize, n: usize) -> bool
     requires { Records size n epoch.now }
     ensures { result ≡ is_ready_in size n epoch.now }
@@ -63,17 +37,16 @@ pub fn is_ready(epoch: &[u64], size: usize, n: usize) -> bool
     if epoch[STATUS_AT] != STATUS_COMPLETE {
         return false;
     }
-    let mut p: usize = 0;
-    while p < n {
+    for p in 0..n {
         if is_awaited(epoch, size, p) {
             return false;
         }
-        p += 1;
     }
     true
 }
 
 // Whether the contribution of proposer p belongs to the batch: it is accepted and has a plaintext.
+#[tactic(auto, unfolding(crate::specs::Words::is_accepted, crate::specs::Batch::is_read))]
 fn is_read(epoch: &[u64], size: usize, p: usize) -> bool
     requires { (p < node_limit) × (field_at size p plaintext_field < length epoch.now) }
     ensures { result ≡ is_read size epoch.now p }
@@ -82,137 +55,61 @@ fn is_read(epoch: &[u64], size: usize, p: usize) -> bool
     has_bit(epoch[ACCEPTED_AT], p) & is_open(epoch[at])
 }
 
-// Asks whether the contribution of proposer p reads, where it belongs to the batch. One that doesn't is the proposer's fault.
+// Asks whether the contribution of proposer p reads, where it belongs to the batch: its bit joins the readable ones. One that doesn't is the
+// proposer's fault.
 fn read_at(
     epoch: &[u64],
     size: usize,
     p: usize,
     readable: u64,
-    answers: &[u64],
-    place: &mut usize,
-    step: Step,
-    words: &mut [u64],
-) -> Read
+    reader: &mut Reader,
+    writer: &mut Writer,
+) -> Result<u64, Stop>
     requires { (p < node_limit) × (field_at size p plaintext_field < length epoch.now) }
-    ensures { left_read epoch.now result (tape_at answers.now place.new) words.new
-        ≡ leaves (out step words.old) (read_at size p readable epoch.now (tape_at answers.now place.old)) }
+    ensures run { left epoch.now result reader.new writer.new ≡ leaves (out_of writer.old) (read_at size p readable epoch.now reader.old) }
+    ensures table { same_table writer.old writer.new }
 {
     if !is_read(epoch, size, p) {
-        return Read {
-            outcome: Reading::Readable(readable),
-            step,
-        };
+        return Ok(readable);
     }
-    match steps::reader::ask_about_from(answers, place, CONTRIBUTION_READS, p as u64) {
-        Answer::Got { a, b: _ } => {
-            if a == 0 {
-                let faulted = step.fault(words, BATCH_DESERIALIZATION_FAILED, p as u64, 0);
-                return Read {
-                    outcome: Reading::Readable(readable),
-                    step: faulted,
-                };
-            }
-            Read {
-                outcome: Reading::Readable(with_bit(readable, p)),
-                step,
-            }
-        }
-        Answer::Refused => Read {
-            outcome: Reading::Refused,
-            step,
-        },
+    let (a, _) = reader.ask_about(AnswerKind::ContributionReads, p)?;
+    if a == 0 {
+        writer.fault(FaultKind::BatchDeserializationFailed, p as u64, 0);
+        return Ok(readable);
     }
+    Ok(with_bit(readable, p))
 }
 
-// Reads the contributions of the batch, by rising proposer.
+// Reads the contributions of the batch, by rising proposer: the readable ones, a word of bits.
 fn read_all(
     epoch: &[u64],
     size: usize,
     n: usize,
-    answers: &[u64],
-    place: &mut usize,
-    step: Step,
-    words: &mut [u64],
-) -> Read
+    reader: &mut Reader,
+    writer: &mut Writer,
+) -> Result<u64, Stop>
     requires { Records size n epoch.now }
-    ensures { left_read epoch.now result (tape_at answers.now place.new) words.new
-        ≡ leaves (out step words.old) (read_from size n 0 0 epoch.now (tape_at answers.now place.old)) }
+    ensures run { left epoch.now result reader.new writer.new ≡ leaves (out_of writer.old) (read_from size n 0 0 epoch.now reader.old) }
+    ensures table { same_table writer.old writer.new }
 {
     let mut readable: u64 = 0;
-    let mut s = step;
-    let mut p: usize = 0;
-    while p < n {
-        let read = read_at(epoch, size, p, readable, answers, place, s, words);
-        let outcome = read.outcome;
-        let Reading::Readable(more) = outcome else {
-            return read;
-        };
-        readable = more;
-        s = read.step;
-        p += 1;
+    for p in 0..n {
+        readable = read_at(epoch, size, p, readable, reader, writer)?;
     }
-    Read {
-        outcome: Reading::Readable(readable),
-        step: s,
-    }
+    Ok(readable)
 }
 
 // An entry for each readable contribution, by rising proposer.
-fn put_entries(
-    epoch: &[u64],
-    size: usize,
-    n: usize,
-    readable: u64,
-    step: Step,
-    words: &mut [u64],
-) -> Step
+fn put_entries(epoch: &[u64], size: usize, n: usize, readable: u64, writer: &mut Writer)
     requires { Records size n epoch.now }
-    ensures { out result words.new
-        ≡ put_all (out step words.old) (entries_from size n 0 readable epoch.now) }
+    ensures step { out_of writer.new ≡ put_all (out_of writer.old) (entries_from size n 0 readable epoch.now) }
+    ensures table { same_table writer.old writer.new }
 {
-    let mut s = step;
-    let mut p: usize = 0;
-    while p < n {
+    for p in 0..n {
         if has_bit(readable, p) {
             let at = RECORDS_AT + p * size + PLAINTEXT_FIELD;
-            s = s.output(words, ENTRY_OUTPUT, p as u64, epoch[at]);
+            writer.output(OutputKind::Entry, p as u64, epoch[at]);
         }
-        p += 1;
-    }
-    s
-}
-
-fn output_batch_at(
-    epoch: &[u64],
-    size: usize,
-    n: usize,
-    number: u64,
-    answers: &[u64],
-    place: &mut usize,
-    step: Step,
-    words: &mut [u64],
-) -> Batch
-    requires { Records size n epoch.now }
-    ensures { left_batch epoch.now result (tape_at answers.now place.new) words.new
-        ≡ leaves (out step words.old) (output_batch_in size n number epoch.now (tape_at answers.now place.old)) }
-{
-    let read = read_all(epoch, size, n, answers, place, step, words);
-    let outcome = read.outcome;
-    let s = read.step;
-    match outcome {
-        Reading::Readable(readable) => {
-            let entries = u64::count_ones(readable) as u64;
-            let first = s.output(words, BATCH_OUTPUT, number, entries);
-            let all = put_entries(epoch, size, n, readable, first, words);
-            Batch {
-                outcome: Handed::Done,
-                step: all,
-            }
-        }
-        Reading::Refused => Batch {
-            outcome: Handed::Refused,
-            step: s,
-        },
     }
 }
 
@@ -222,44 +119,16 @@ pub fn output_batch(
     size: usize,
     n: usize,
     number: u64,
-    cursor: &mut Cursor,
-    answers: &[u64],
-    step: Step,
-    words: &mut [u64],
-) -> Batch
+    reader: &mut Reader,
+    writer: &mut Writer,
+) -> Result<(), Stop>
     requires { Records size n epoch.now }
-    ensures { (left_batch epoch.now result (tape_at answers.now cursor.new.place) words.new
-        ≡ leaves (out step words.old) (output_batch_in size n number epoch.now (tape_at answers.now cursor.old.place)))
-        × (cursor.new.last ≡ cursor.old.last) }
+    ensures run { left epoch.now result reader.new writer.new ≡ leaves (out_of writer.old) (output_batch_in size n number epoch.now reader.old) }
+    ensures table { same_table writer.old writer.new }
 {
-    output_batch_at(
-        epoch,
-        size,
-        n,
-        number,
-        answers,
-        &mut cursor.place,
-        step,
-        words,
-    )
-}
-
-pub fn output_batch_from(
-    epoch: &[u64],
-    size: usize,
-    n: usize,
-    number: u64,
-    answers: &[u64],
-    place: &mut usize,
-    step: Step,
-    words: &mut [u64],
-) -> Batch
-    requires { Records size n epoch.now }
-    ensures { left_batch epoch.now result (tape_at answers.now place.new) words.new
-        ≡ leaves (out step words.old) (output_batch_in size n number epoch.now (tape_at answers.now place.old)) }
-{
-    let mut cursor = steps::reader::cursor_at(answers, *place);
-    let batch = output_batch(epoch, size, n, number, &mut cursor, answers, step, words);
-    *place = cursor.place;
-    batch
+    let readable = read_all(epoch, size, n, reader, writer)?;
+    let entries = u64::from(readable.count_ones());
+    writer.output(OutputKind::Batch, number, entries);
+    put_entries(epoch, size, n, readable, writer);
+    Ok(())
 }

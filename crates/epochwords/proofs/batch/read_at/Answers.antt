@@ -1,22 +1,28 @@
 -- `read_at` meets its contract, case by case. Assumes nothing.
-use mathlib.Core.Path.{sym, ap, ◌∙◌}
+use mathlib.Core.Path.{refl, sym, ◌∙◌}
+use borrow.Author.Tests.{ne_eqb}
+use Rattle.std.proofs.lemmas.Result.{err_from_is_err_and}
 use Rattle.steps.specs.Steps.{put_all}
-use Rattle.steps.specs.Runs.{leaves}
-use Rattle.epochwords.proofs.BatchCode.{read_off, read_refused, read_good, read_bad}
+use Rattle.steps.proofs.LentRuns.{heard_ok_left, heard_err_left}
+use Rattle.epochwords.specs.Batch.{read_at}
 use Rattle.epochwords.proofs.batch.read_at.Goals as goal
 
-pub returns-then-not-is_read : goal.returns-then-not-is_read
-unfolding put_all
-returns-then-not-is_read c = ap (leaves _) (read_off _ _ _ _ _ (sym c.is_read.ensures ∙ c.if-not-is_read.true))
+pub returns-then-not-is_read-clause-run : goal.returns-then-not-is_read-clause-run
+unfolding read_at put_all
+returns-then-not-is_read-clause-run c = rw (sym c.is_read.ensures ∙ c.if-not-is_read.true)
 
-pub returns-then-a-eq0 : goal.returns-then-a-eq0
-unfolding put_all
-returns-then-a-eq0 c = read_bad _ _ _ _ _ _ _ c.ask_about_from.ensures (sym c.is_read.ensures ∙ c.if-not-is_read.false) _ _ c.in-Got.is c.if-a-eq0.true _ _ c.fault-faulted.ensures
+pub returns-in_err-a-clause-run : goal.returns-in_err-a-clause-run
+unfolding read_at
+returns-in_err-a-clause-run c =
+    let p = err_from_is_err_and c.from_residual.result c.from_residual.ensures.1 in
+    rw (p.1, p.2, sym c.is_read.ensures ∙ c.if-not-is_read.false) (heard_err_left _ _ _ _ _ c.in_err-a.ensures c.args.writer.now)
 
-pub returns-else-a-eq0 : goal.returns-else-a-eq0
-unfolding put_all
-returns-else-a-eq0 c = rw c.with_bit.ensures (ap (leaves _) (read_good _ _ _ _ _ _ _ c.ask_about_from.ensures (sym c.is_read.ensures ∙ c.if-not-is_read.false) _ _ c.in-Got.is c.if-a-eq0.false))
+pub returns-then-a-eq0-clause-run : goal.returns-then-a-eq0-clause-run
+unfolding read_at put_all
+returns-then-a-eq0-clause-run c =
+    rw (sym c.is_read.ensures ∙ c.if-not-is_read.false) (heard_ok_left _ c.args.epoch.now _ _ _ c.in_ok-a.ensures _ _ (rw (c.if-a-eq0.true, c.fault.ensures.step) refl))
 
-pub returns-in-Refused : goal.returns-in-Refused
-unfolding put_all
-returns-in-Refused c = ap (leaves _) (read_refused _ _ _ _ _ _ _ c.ask_about_from.ensures (sym c.is_read.ensures ∙ c.if-not-is_read.false) c.in-Refused.is)
+pub returns-clause-run : goal.returns-clause-run
+unfolding read_at put_all
+returns-clause-run c =
+    rw (sym c.is_read.ensures ∙ c.if-not-is_read.false) (heard_ok_left _ c.args.epoch.now _ _ _ c.in_ok-a.ensures _ _ (rw (ne_eqb _ _ c.if-a-eq0.false, c.with_bit.ensures) refl))
