@@ -4,20 +4,16 @@ use mathlib.Core.Path.{◌≡◌, refl, sym, ◌∙◌}
 use mathlib.Core.List.{List, ◌∷◌}
 use mathlib.Core.Bool.{Bool, true, false, cond, ◌&&◌, not}
 use native.Mathlib.Omega.{arith}
-use native.Mathlib.Nat.{mul-le-mul_right, suc-mul}
-use lib.ListN.{length}
 use lib.Count.{ones}
-use Rattle.steps.specs.Numbers.{node_limit, batch_output, entry_output}
+use Rattle.steps.specs.Numbers.{batch_output, entry_output}
 use Rattle.steps.specs.Answers.{Tape}
 use Rattle.steps.specs.Steps.{Out, put_entry, put_all, output}
 use Rattle.steps.specs.Runs.{going, ends, before, onward, leaves}
 use Rattle.steps.specs.Bits.{has_bit, count_bits}
 use Rattle.steps.proofs.RunLaws.{leaves_before}
-use Rattle.subset.specs.Words.{field_at}
 use Rattle.steps.proofs.AfterRun.{after_out}
-use Rattle.epochwords.specs.Words.{is_accepted, is_settled, decryption_in, plaintext_in, plaintext_field}
+use Rattle.epochwords.specs.Words.{is_accepted, is_settled, decryption_in, plaintext_in}
 use Rattle.epochwords.specs.Batch.{decrypted_from, read_at, read_from, entries_from}
-use Rattle.epochwords.specs.Shape.{Records}
 use Rattle.epochwords.proofs.Readable.{entries_ones}
 
 -- before the first turn of a loop, n are left
