@@ -1,5 +1,5 @@
 -- A turn of the loop over batches, from what trying to hand one out left. For the proofs of the code. Assumes nothing.
-use Prim.Native.Nat.{ℕ, suc, ◌+◌}
+use Prim.Native.Nat.{ℕ, suc, ◌+◌, ◌-◌, ◌<◌}
 use native.Mathlib.Omega.{arith}
 use mathlib.Core.Path.{◌≡◌, refl, sym, ap, ◌∙◌}
 use mathlib.Core.List.{List}
@@ -7,14 +7,16 @@ use mathlib.Core.Bool.{Bool, true, false}
 use borrow.Author.Tests.{eq-eqb, ne_eqb}
 use Rattle.steps.specs.Answers.{Tape}
 use Rattle.steps.specs.Steps.{Out, put_all}
+use Rattle.std.specs.Prelude.{Err}
+use Rattle.steps.specs.declared.kinds.Stop.{Stop}
+use Rattle.steps.specs.declared.kinds.Stop.TheVariants.{NotNext, Failed}
+use Rattle.steps.specs.Kinds.{verdict_of}
 use Rattle.steps.specs.Runs.{Verdict, going, refused, failed, Run, Left, ends, onward, leaves}
 use Rattle.steps.proofs.RunLaws.{onward_go, onward_refused, onward_failed}
 use Rattle.epochwords.specs.Batch.{is_ready, output_batch}
 use Rattle.state.specs.State.{epoch_words}
-use Rattle.work.specs.declared.honey_badger.Trial.{Trial}
-use Rattle.work.specs.declared.honey_badger.Trial.TheVariants.{NotReady, Done, Refused}
 use Rattle.work.specs.Work.{batches_from, beside}
-use Rattle.work.specs.Shape.{try_output_batch, tried_verdict, batches_verdict}
+use Rattle.work.specs.Shape.{try_output_batch}
 use Rattle.work.proofs.RunLeaves.{turn_over, turn_goes, turn_stops}
 
 -- THE WORDS OF AN EPOCH: the call's own stand apart, those of the others in the state
@@ -74,14 +76,24 @@ module _ (n : ℕ) (words : ℕ → List ℕ) (m e : ℕ) (p : Tape) (o : Out) (
       go true f = is_ready_lem f r.verdict refl
       go false f = not_ready f
 
-  pub tried_goes : d.verdict ≡ going true → leaves d.out (batches_from n words m (e + 1) d.tape) ≡ leaves o (batches_from n words (suc m) e p)
-  tried_goes = turn.0
+-- THE LOOP's turns go from the current epoch to the one behind the last that lives: `turn` in the code's counting
+module _ (n : ℕ) (words : ℕ → List ℕ) (behind e : ℕ) (p : Tape) (o : Out) (d : Left (List ℕ) Bool) (left : d ≡ leaves o (try_output_batch n e (words e) p)) (more : e < behind) where
+  one_more : behind - e ≡ suc (behind - (e + 1))
+  one_more = omega arith
 
-  pub tried_stops : (x : Trial) → (x ≡ Done → ⊥) → d.verdict ≡ tried_verdict x
-      → record { state = e; verdict = batches_verdict x; tape = d.tape; out = d.out } ≡ leaves o (batches_from n words (suc m) e p)
-  tried_stops Done h z = absurd (h refl)
-  tried_stops NotReady h z = rw z at (turn.1 (λ y. let u : ◌≡◌ {A = ℕ} 0 1 = cc in omega arith))
-  tried_stops Refused h z = rw z at (turn.1 (λ y. let u : ◌≡◌ {A = ℕ} 0 1 = cc in omega arith))
+  -- a batch went out
+  pub tried_goes : d.verdict ≡ going true → leaves d.out (batches_from n words (behind - (e + 1)) (e + 1) d.tape) ≡ leaves o (batches_from n words (behind - e) e p)
+  tried_goes z = rw one_more ((turn n words (behind - (e + 1)) e p o d left).0 z)
+
+  -- the epoch is not ready
+  pub tried_over : d.verdict ≡ going false → record { state = e; verdict = going tt; tape = d.tape; out = d.out } ≡ leaves o (batches_from n words (behind - e) e p)
+  tried_over z = rw one_more (rw z at ((turn n words (behind - (e + 1)) e p o d left).1 (λ y. absurd (cc))))
+
+  -- handing out its batch ended the run
+  pub tried_ends : (f : Stop) → d.verdict ≡ verdict_of {A = Bool} (Err f)
+      → record { state = e; verdict = verdict_of {A = Unit {0}} (Err f); tape = d.tape; out = d.out } ≡ leaves o (batches_from n words (behind - e) e p)
+  tried_ends NotNext z = rw one_more (rw z at ((turn n words (behind - (e + 1)) e p o d left).1 (λ y. absurd (cc))))
+  tried_ends (Failed c) z = rw one_more (rw z at ((turn n words (behind - (e + 1)) e p o d left).1 (λ y. absurd (cc))))
 
 -- no turn is left
 pub none_left : (n : ℕ) (words : ℕ → List ℕ) (m e : ℕ) (p : Tape) → m ≡ 0 → ends (going tt) e p ≡ batches_from n words m e p

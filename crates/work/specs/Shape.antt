@@ -1,27 +1,19 @@
--- What the functions of a run and of its commit require, what their enums stand for, and what they leave.
-use Rattle.std.specs.Prelude.{ℕ, ◌+◌, ◌<◌, List, [], Bool, true, false, cond, set, leb}
+-- What the functions of a run and of its commit require, and the runs that they are.
+use Rattle.std.specs.Prelude.{ℕ, ◌+◌, ◌<◌, List, Bool, true, false, cond, set, leb}
 use Rattle.steps.specs.Numbers.{fault_limit}
 use Rattle.steps.specs.Answers.{Tape}
-use Rattle.steps.specs.Steps.{out}
-use Rattle.steps.specs.Runs.{Verdict, going, refused, Run, ends, onward, Left}
+use Rattle.steps.specs.Runs.{going, Run, ends, onward}
 use Rattle.epoch.specs.declared.MessageContent.{MessageContent}
 use Rattle.epoch.specs.declared.MessageContent.TheVariants.{Subset, DecryptionShare}
 use Rattle.epoch.specs.declared.epoch_state.SubsetInput.TheVariants.{Proposal, Message as ToProposer}
 use Rattle.epoch.specs.declared.epoch_state.Input.{Input}
 use Rattle.epoch.specs.declared.epoch_state.Input.TheVariants.{Subset as OfSubset, Share as OfShare}
-use Rattle.epoch.specs.declared.epoch_state.Outcome.{Outcome}
-use Rattle.epoch.specs.Outcomes.{outcome_verdict}
 use Rattle.epoch.specs.Epoch.{propose as propose_in_epoch, handle_message_content}
 use Rattle.epochwords.specs.Batch.{is_ready, output_batch}
 use Rattle.state.specs.State.{fault_count, input_at, faults_at, net_of, strategy_of, encrypted_in}
 use Rattle.work.specs.declared.honey_badger.Call.{Call}
 use Rattle.work.specs.declared.honey_badger.Call.TheVariants.{Propose, Message}
-use Rattle.work.specs.declared.honey_badger.Trial.{Trial}
-use Rattle.work.specs.declared.honey_badger.Trial.TheVariants.{NotReady, Done, Refused}
-use Rattle.work.specs.declared.honey_badger.Tried.{Tried}
-use Rattle.work.specs.declared.honey_badger.Batches.{Batches}
-use Rattle.work.specs.declared.honey_badger.Ran.{Ran}
-use Rattle.work.specs.Work.{Worked, worked, work_in}
+use Rattle.work.specs.Work.{Worked, work_in}
 
 -- A CALL OF ONE EPOCH, on its words: the own proposal, or a message
 abbrev pub body_of : Call → List ℕ → ℕ → List ℕ → Tape → Run (List ℕ) (Unit {0})
@@ -57,31 +49,6 @@ try_output_batch n e x p =
     cond (is_ready n x)
     (onward (output_batch n e x p) (λ _ x q. ends (going true) x q))
     (ends (going false) x p)
-
-abbrev pub tried_verdict : Trial → Verdict Bool
-tried_verdict NotReady = going false
-tried_verdict Done = going true
-tried_verdict Refused = refused
-
--- the epoch's words are only read
-abbrev pub left_tried : List ℕ → Tried → Tape → List ℕ → Left (List ℕ) Bool
-left_tried x r p words = record { state = x; verdict = tried_verdict r.outcome; tape = p; out = out r.step words }
-
--- BATCHES: the run's state is the epoch that is next
-abbrev pub batches_verdict : Trial → Verdict (Unit {0})
-batches_verdict NotReady = going tt
-batches_verdict Done = going tt
-batches_verdict Refused = refused
-
-abbrev pub left_batches : Batches → Tape → List ℕ → Left ℕ (Unit {0})
-left_batches r p words = record { state = r.next; verdict = batches_verdict r.outcome; tape = p; out = out r.step words }
-
--- THE RUN. Building an epoch writes no entry
-abbrev pub left_built : Outcome → List ℕ → Tape → Run (List ℕ) (Unit {0})
-left_built r x p = record { state = x; verdict = outcome_verdict r; tape = p; log = [] }
-
-abbrev pub left_ran : Ran → List ℕ → Tape → List ℕ → Left Worked (Unit {0})
-left_ran r x p words = record { state = worked x r.next; verdict = outcome_verdict r.outcome; tape = p; out = out r.step words }
 
 -- the fault count with k more
 unfoldable pub count_more : List ℕ → ℕ → List ℕ

@@ -1,30 +1,26 @@
 // The engine's runs, after honey_badger.rs. A run reads the state and works on the words of one epoch apart from it.
 //
-// `words` are the words of the call's epoch. `answers`, `place`, `step` and `table` are the call's answers with the place in them, and its
-// step with the table that it is written to.
+// `words` are the words of the call's epoch.
 ghost use Rattle.std.specs.Prelude.{◌≡◌, true, ◌+◌, ◌≤◌, length};
-ghost use Rattle.steps.specs.Answers.{tape_at};
-ghost use Rattle.steps.specs.Steps.{out};
 ghost use Rattle.steps.specs.Runs.{leaves};
-ghost use Rattle.network.specs.Network.{Network};
+ghost use Rattle.steps.specs.Written.{out_of, same_table, left, left_reading};
 ghost use Rattle.subset.specs.Words.{epoch_length};
 ghost use Rattle.epochwords.specs.Shape.{EpochWords, Listed};
-ghost use Rattle.state.specs.State.{nodes, ahead, current_epoch, epoch_words, net_of, state_ok};
+ghost use Rattle.state.specs.State.{nodes, ahead, current_epoch, epoch_words, state_ok};
 ghost use Rattle.state.specs.Shape.{StateWords};
-ghost use Rattle.work.specs.Work.{built, epoch_call, beside, batches_from};
-ghost use Rattle.work.specs.Shape.{CallOk, body_of, input_of, call_work, try_output_batch, left_tried, left_batches, left_built, left_ran};
-ghost use Rattle.epoch.specs.Outcomes.{left};
+ghost use Rattle.work.specs.Work.{built, epoch_call, beside, batches_from, worked};
+ghost use Rattle.work.specs.Shape.{CallOk, body_of, input_of, call_work, try_output_batch};
 
 use epoch::MessageContent;
-use epoch::epoch_state::{Input, Outcome, SubsetInput, handle_from, new_epoch};
-use epochwords::batch::{Handed, is_ready, output_batch_from};
+use epoch::epoch_state::{Input, SubsetInput, handle, new_epoch};
+use epochwords::batch::{is_ready, output_batch};
 use epochwords::words::{STATUS_AT, STATUS_VACANT};
 use state::words::{
     AHEAD_AT, EPOCH_AT, NODES_AT, encrypted_in, load, net_of, place_of, strategy_of,
 };
-use steps::numbers::{CREATE_SUBSET, INSTANCES_BUILT};
-use steps::reader::Answer;
-use steps::step::Step;
+use steps::kinds::{AnswerKind, Failure, Stop};
+use steps::reader::Reader;
+use steps::step::Writer;
 use subset::words::RECORD_FIELDS;
 
 // What an epoch is called with: the own proposal, or a message: sender, proposer, content.
@@ -34,261 +30,170 @@ pub enum Call {
     Message(usize, usize, MessageContent),
 }
 
-// What handing out the batch of an epoch comes to.
-#[derive(Clone, Copy)]
-pub enum Trial {
-    NotReady,
-    Done,
-    Refused,
+// What comes to the epoch with a call.
+impl From<Call> for Input {
+    ghost from_gives = { λ call input. input ≡ input_of call };
+
+    fn from(call: Call) -> Input {
+        match call {
+            Call::Propose => Input::Subset(SubsetInput::Proposal),
+            Call::Message(sender, proposer, content) => match content {
+                MessageContent::Subset(message) => {
+                    Input::Subset(SubsetInput::Message(message, proposer))
+                }
+                MessageContent::DecryptionShare(share) => Input::Share(sender, proposer, share),
+            },
+        }
+    }
 }
 
-#[derive(Clone, Copy)]
-pub struct Tried {
-    pub outcome: Trial,
-    pub step: Step,
-}
-
-// What handing out batches comes to: the epoch that is next, and how the last turn ended.
-#[derive(Clone, Copy)]
-pub struct Batches {
-    pub next: u64,
-    pub outcome: Trial,
-    pub step: Step,
-}
-
-// What a run comes to, and the epoch that is current after it.
-#[derive(Clone, Copy)]
-pub struct Ran {
-    pub next: u64,
-    pub outcome: Outcome,
-    pub step: Step,
-}
-
-// `try_output_batch`: hands out the batch of epoch `number`, whose words these are, if it is ready.
+// `try_output_batch`: hands out the batch of epoch `number`, whose words these are, if it is ready: whether it went out.
 fn try_output_batch(
     words: &[u64],
     n: usize,
     number: u64,
-    answers: &[u64],
-    place: &mut usize,
-    step: Step,
-    table: &mut [u64],
-) -> Tried
+    reader: &mut Reader,
+    writer: &mut Writer,
+) -> Result<bool, Stop>
     requires { EpochWords n words.now }
-    ensures { left_tried words.now result (tape_at answers.now place.new) table.new
-        ≡ leaves (out step table.old) (try_output_batch n number words.now (tape_at answers.now place.old)) }
+    ensures run { left words.now result reader.new writer.new ≡ leaves (out_of writer.old) (try_output_batch n number words.now reader.old) }
+    ensures table { same_table writer.old writer.new }
 {
     let size = RECORD_FIELDS + n;
     if !is_ready(words, size, n) {
-        return Tried {
-            outcome: Trial::NotReady,
-            step,
-        };
+        return Ok(false);
     }
-    let batch = output_batch_from(words, size, n, number, answers, place, step, table);
-    let s = batch.step;
-    let outcome = batch.outcome;
-    match outcome {
-        Handed::Done => Tried {
-            outcome: Trial::Done,
-            step: s,
-        },
-        Handed::Refused => Tried {
-            outcome: Trial::Refused,
-            step: s,
-        },
-    }
+    output_batch(words, size, n, number, reader, writer)?;
+    Ok(true)
 }
 
 // Hands out the batch of epoch `number`, if it is ready. `words` are those of epoch `epoch`; those of the others stand in the state.
+#[tactic(auto, using(state::proofs::WordsCode::place_inside, state::proofs::WordsCode::state_small))]
 fn try_output_at(
     state: &[u64],
     epoch: u64,
     words: &[u64],
     number: u64,
-    answers: &[u64],
-    place: &mut usize,
-    step: Step,
-    table: &mut [u64],
-) -> Tried
+    reader: &mut Reader,
+    writer: &mut Writer,
+) -> Result<bool, Stop>
     requires { StateWords state.now × (length words.now ≡ epoch_length (nodes state.now)) }
-    ensures { left_tried (beside state.now epoch words.now number) result (tape_at answers.now place.new) table.new
-        ≡ leaves (out step table.old) (try_output_batch (nodes state.now) number (beside state.now epoch words.now number) (tape_at answers.now place.old)) }
+    ensures run { left (beside state.now epoch words.now number) result reader.new writer.new
+        ≡ leaves (out_of writer.old) (try_output_batch (nodes state.now) number (beside state.now epoch words.now number) reader.old) }
+    ensures table { same_table writer.old writer.new }
 {
     let n = state[NODES_AT] as usize;
     if number == epoch {
-        return try_output_batch(words, n, number, answers, place, step, table);
+        return try_output_batch(words, n, number, reader, writer);
     }
     let at = place_of(state, number);
     let end = at + words.len();
-    try_output_batch(&state[at..end], n, number, answers, place, step, table)
+    try_output_batch(&state[at..end], n, number, reader, writer)
 }
 
-// `try_output_batches`: hands out batches from the current epoch on, as long as the next one is ready.
+// `try_output_batches`: hands out batches from the current epoch on, as long as the next one is ready. `next` is then the epoch that is
+// next.
+#[tactic(auto, using(state::proofs::WordsCode::header_inside))]
 fn try_output_batches(
     state: &[u64],
     epoch: u64,
     words: &[u64],
-    answers: &[u64],
-    place: &mut usize,
-    step: Step,
-    table: &mut [u64],
-) -> Batches
+    next: &mut u64,
+    reader: &mut Reader,
+    writer: &mut Writer,
+) -> Result<(), Stop>
     requires { StateWords state.now × (length words.now ≡ epoch_length (nodes state.now)) }
-    ensures { left_batches result (tape_at answers.now place.new) table.new
-        ≡ leaves (out step table.old) (batches_from (nodes state.now) (beside state.now epoch words.now) (ahead state.now + 1) (current_epoch state.now) (tape_at answers.now place.old)) }
+    ensures run { left next.new result reader.new writer.new
+        ≡ leaves (out_of writer.old) (batches_from (nodes state.now) (beside state.now epoch words.now) (ahead state.now + 1) (current_epoch state.now) reader.old) }
+    ensures table { same_table writer.old writer.new }
 {
-    let mut left = state[AHEAD_AT] + 1;
-    let mut next = state[EPOCH_AT];
-    let mut s = step;
-    while 0 < left {
-        let tried = try_output_at(state, epoch, words, next, answers, place, s, table);
-        let outcome = tried.outcome;
-        s = tried.step;
-        let Trial::Done = outcome else {
-            return Batches {
-                next,
-                outcome,
-                step: s,
-            };
-        };
-        next += 1;
-        left -= 1;
+    let current = state[EPOCH_AT];
+    let behind = current + state[AHEAD_AT] + 1;
+    *next = current;
+    for number in current..behind {
+        if !try_output_at(state, epoch, words, number, reader, writer)? {
+            return Ok(());
+        }
+        *next = number + 1;
     }
-    Batches {
-        next,
-        outcome: Trial::Done,
-        step: s,
-    }
+    Ok(())
 }
 
 // `epoch_state_mut`: the instances of an epoch are built where there are none.
-fn build(n: usize, words: &mut [u64], answers: &[u64], place: &mut usize) -> Outcome
+#[tactic(auto, unfolding(crate::specs::Work::built))]
+fn build(n: usize, words: &mut [u64], reader: &mut Reader) -> Result<(), Stop>
     requires { EpochWords n words.old }
-    ensures { left_built result words.new (tape_at answers.now place.new)
-        ≡ built n words.old (tape_at answers.now place.old) }
+    ensures { left_reading words.new result reader.new ≡ built n words.old reader.old }
 {
     if words[STATUS_AT] != STATUS_VACANT {
-        return Outcome::Done;
+        return Ok(());
     }
-    match steps::reader::ask_from(answers, place, INSTANCES_BUILT) {
-        Answer::Got { a, b: _ } => {
-            if a == 0 {
-                return Outcome::Failed(CREATE_SUBSET);
-            }
-            new_epoch(words, n);
-            Outcome::Done
-        }
-        Answer::Refused => Outcome::Refused,
+    let (a, _) = reader.ask(AnswerKind::InstancesBuilt)?;
+    if a == 0 {
+        return Err(Stop::Failed(Failure::CreateSubset));
     }
-}
-
-// What comes to the epoch with a call.
-fn input_of(call: Call) -> Input
-    ensures { result ≡ input_of call }
-{
-    match call {
-        Call::Propose => Input::Subset(SubsetInput::Proposal),
-        Call::Message(sender, proposer, content) => match content {
-            MessageContent::Subset(message) => {
-                Input::Subset(SubsetInput::Message(message, proposer))
-            }
-            MessageContent::DecryptionShare(share) => Input::Share(sender, proposer, share),
-        },
-    }
+    new_epoch(words, n);
+    Ok(())
 }
 
 // The epoch's own call.
+#[tactic(auto, using(state::proofs::WordsCode::header_inside, state::proofs::RangeCode::ok_words, state::proofs::RangeCode::ok_schedule))]
 fn call_body(
     state: &[u64],
     epoch: u64,
     call: Call,
     words: &mut [u64],
-    answers: &[u64],
-    place: &mut usize,
-    step: Step,
-    table: &mut [u64],
-) -> epoch::epoch_state::Ran
+    reader: &mut Reader,
+    writer: &mut Writer,
+) -> Result<(), Stop>
     requires { (state_ok state.now ≡ true) × CallOk call (nodes state.now) × EpochWords (nodes state.now) words.old × Listed (nodes state.now) words.old }
-    ensures { left words.new result (tape_at answers.now place.new) table.new
-        ≡ leaves (out step table.old) (body_of call state.now epoch words.old (tape_at answers.now place.old)) }
+    ensures run { left words.new result reader.new writer.new ≡ leaves (out_of writer.old) (body_of call state.now epoch words.old reader.old) }
+    ensures table { same_table writer.old writer.new }
 {
     let net = net_of(state);
     let strategy = strategy_of(state);
     let encrypted = encrypted_in(state, epoch);
-    let input = input_of(call);
-    handle_from(
-        words, net, strategy, encrypted, input, answers, place, step, table,
-    )
+    let input = Input::from(call);
+    handle(words, net, strategy, encrypted, input, reader, writer)
 }
 
 // The epoch's words are built where there are none, then its own call runs.
+#[tactic(auto, using(state::proofs::WordsCode::header_inside, state::proofs::RangeCode::ok_words))]
 fn call_epoch(
     state: &[u64],
     epoch: u64,
     call: Call,
     words: &mut [u64],
-    answers: &[u64],
-    place: &mut usize,
-    step: Step,
-    table: &mut [u64],
-) -> epoch::epoch_state::Ran
+    reader: &mut Reader,
+    writer: &mut Writer,
+) -> Result<(), Stop>
     requires { (state_ok state.now ≡ true) × CallOk call (nodes state.now) × (length words.old ≡ epoch_length (nodes state.now)) }
-    ensures { left words.new result (tape_at answers.now place.new) table.new
-        ≡ leaves (out step table.old) (epoch_call (nodes state.now) (body_of call state.now epoch) (epoch_words state.now epoch) (tape_at answers.now place.old)) }
+    ensures run { left words.new result reader.new writer.new
+        ≡ leaves (out_of writer.old) (epoch_call (nodes state.now) (body_of call state.now epoch) (epoch_words state.now epoch) reader.old) }
+    ensures table { same_table writer.old writer.new }
 {
-    let n = state[NODES_AT] as usize;
     load(state, epoch, words);
-    let built = build(n, words, answers, place);
-    let Outcome::Done = built else {
-        return epoch::epoch_state::Ran {
-            outcome: built,
-            step,
-        };
-    };
-    call_body(state, epoch, call, words, answers, place, step, table)
+    build(state[NODES_AT] as usize, words, reader)?;
+    call_body(state, epoch, call, words, reader, writer)
 }
 
-// A run: the epoch's call on its words, then batches are handed out. The state is only read.
+// A run: the epoch's call on its words, then batches are handed out. The state is only read; `next` is where the run leaves the current
+// epoch.
+#[tactic(auto, using(state::proofs::WordsCode::header_inside, state::proofs::RangeCode::ok_words))]
 pub fn run(
     state: &[u64],
     epoch: u64,
     call: Call,
     words: &mut [u64],
-    answers: &[u64],
-    place: &mut usize,
-    step: Step,
-    table: &mut [u64],
-) -> Ran
+    next: &mut u64,
+    reader: &mut Reader,
+    writer: &mut Writer,
+) -> Result<(), Stop>
     requires { (state_ok state.now ≡ true) × CallOk call (nodes state.now) × (length words.old ≡ epoch_length (nodes state.now)) }
-    ensures { left_ran result words.new (tape_at answers.now place.new) table.new
-        ≡ leaves (out step table.old) (call_work call epoch state.now (tape_at answers.now place.old)) }
+    ensures run { left (worked words.new next.new) result reader.new writer.new ≡ leaves (out_of writer.old) (call_work call epoch state.now reader.old) }
+    ensures table { same_table writer.old writer.new }
 {
-    let current = state[EPOCH_AT];
-    let called = call_epoch(state, epoch, call, words, answers, place, step, table);
-    let outcome = called.outcome;
-    let s = called.step;
-    let Outcome::Done = outcome else {
-        return Ran {
-            next: current,
-            outcome,
-            step: s,
-        };
-    };
-    let batches = try_output_batches(state, epoch, words, answers, place, s, table);
-    let next = batches.next;
-    let all = batches.step;
-    let ended = batches.outcome;
-    match ended {
-        Trial::Refused => Ran {
-            next,
-            outcome: Outcome::Refused,
-            step: all,
-        },
-        _ => Ran {
-            next,
-            outcome: Outcome::Done,
-            step: all,
-        },
-    }
+    *next = state[EPOCH_AT];
+    call_epoch(state, epoch, call, words, reader, writer)?;
+    try_output_batches(state, epoch, words, next, reader, writer)
 }

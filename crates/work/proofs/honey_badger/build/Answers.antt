@@ -1,15 +1,25 @@
 -- `build` meets its contract, case by case. Assumes nothing.
-use Rattle.work.proofs.RunCode.{built_there, built_refused, built_failed, built_new}
+use mathlib.Core.Path.{refl}
+use borrow.Author.Tests.{eq-eqb, ne_eqb}
+use Rattle.std.proofs.lemmas.Result.{err_from_is_err_and}
+use Rattle.steps.proofs.LentRuns.{heard_ok, heard_err}
+use Rattle.work.specs.Work.{built}
 use Rattle.work.proofs.honey_badger.build.Goals as goal
 
 pub returns-then-words-ne-STATUS_VACANT : goal.returns-then-words-ne-STATUS_VACANT
-returns-then-words-ne-STATUS_VACANT c = built_there _ _ _ c.if-words-ne-STATUS_VACANT.true
+unfolding built
+returns-then-words-ne-STATUS_VACANT c = rw (ne_eqb _ _ c.if-words-ne-STATUS_VACANT.true)
+
+pub returns-in_err-a : goal.returns-in_err-a
+unfolding built
+returns-in_err-a c =
+    let p = err_from_is_err_and c.from_residual.result c.from_residual.ensures.1 in
+    rw (p.1, p.2, eq-eqb _ _ c.if-words-ne-STATUS_VACANT.false) (heard_err _ _ _ _ _ c.in_err-a.ensures)
 
 pub returns-then-a-eq0 : goal.returns-then-a-eq0
-returns-then-a-eq0 c = built_failed _ _ _ _ _ c.ask_from.ensures c.if-words-ne-STATUS_VACANT.false _ _ c.in-Got.is c.if-a-eq0.true
+unfolding built
+returns-then-a-eq0 c = rw (eq-eqb _ _ c.if-words-ne-STATUS_VACANT.false) (heard_ok _ c.args.words.now _ _ _ c.in_ok-a.ensures _ (rw c.if-a-eq0.true refl))
 
-pub returns-else-a-eq0 : goal.returns-else-a-eq0
-returns-else-a-eq0 c = built_new _ _ _ _ _ c.ask_from.ensures c.if-words-ne-STATUS_VACANT.false _ _ c.in-Got.is c.if-a-eq0.false _ c.new_epoch.ensures
-
-pub returns-in-Refused : goal.returns-in-Refused
-returns-in-Refused c = built_refused _ _ _ _ _ c.ask_from.ensures c.if-words-ne-STATUS_VACANT.false c.in-Refused.is
+pub returns : goal.returns
+unfolding built
+returns c = rw (eq-eqb _ _ c.if-words-ne-STATUS_VACANT.false) (heard_ok _ c.args.words.now _ _ _ c.in_ok-a.ensures _ (rw (ne_eqb _ _ c.if-a-eq0.false, c.new_epoch.ensures) refl))

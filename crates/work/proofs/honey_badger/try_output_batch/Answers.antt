@@ -1,28 +1,21 @@
 -- `try_output_batch` meets its contract, by what its two callees leave. Assumes nothing.
-use mathlib.Core.Path.{sym, ap, ◌∙◌}
-use mathlib.Core.Bool.{true}
-use native.Mathlib.Omega.{arith}
+use mathlib.Core.Path.{refl, sym, ◌∙◌}
+use Rattle.std.proofs.lemmas.Result.{err_from_is_err_and}
 use Rattle.steps.specs.Steps.{put_all}
-use Rattle.steps.specs.Runs.{going, ends}
-use Rattle.steps.proofs.RunLaws.{onward_go, onward_refused}
-use Rattle.epochwords.specs.BatchOutcomes.{handed_verdict}
+use Rattle.steps.proofs.LentRuns.{onward_ok, onward_err}
 use Rattle.work.specs.Shape.{try_output_batch}
 use Rattle.work.proofs.honey_badger.try_output_batch.Goals as goal
 
-pub is_ready-requires : goal.is_ready-requires
-is_ready-requires c = record { few = c.requires.few; fields = omega arith; long = omega (arith, c.requires.long) }
-
-pub returns-then-not-is_ready : goal.returns-then-not-is_ready
+pub returns-then-not-is_ready-clause-run : goal.returns-then-not-is_ready-clause-run
 unfolding try_output_batch put_all
-returns-then-not-is_ready c = rw (sym c.is_ready.ensures ∙ c.if-not-is_ready.true)
+returns-then-not-is_ready-clause-run c = rw (sym c.is_ready.ensures ∙ c.if-not-is_ready.true)
 
-pub output_batch_from-batch-requires : goal.output_batch_from-batch-requires
-output_batch_from-batch-requires c = record { few = c.requires.few; fields = omega arith; long = omega (arith, c.requires.long) }
-
-pub returns-in-Done : goal.returns-in-Done
-unfolding try_output_batch put_all
-returns-in-Done c = rw (sym c.is_ready.ensures ∙ c.if-not-is_ready.false) (onward_go _ _ _ (λ _ w q. ends (going true) w q) c.output_batch_from-batch.ensures tt (ap handed_verdict c.in-Done.is))
-
-pub returns-in-Refused : goal.returns-in-Refused
+pub returns-in_err-output_batch-clause-run : goal.returns-in_err-output_batch-clause-run
 unfolding try_output_batch
-returns-in-Refused c = rw (sym c.is_ready.ensures ∙ c.if-not-is_ready.false) (onward_refused _ _ _ _ c.output_batch_from-batch.ensures (ap handed_verdict c.in-Refused.is))
+returns-in_err-output_batch-clause-run c =
+    let p = err_from_is_err_and c.from_residual.result c.from_residual.ensures.1 in
+    rw (p.1, p.2, sym c.is_ready.ensures ∙ c.if-not-is_ready.false) (onward_err _ _ _ _ c.output_batch.new.writer _ _ c.in_err-output_batch.ensures.run)
+
+pub returns-clause-run : goal.returns-clause-run
+unfolding try_output_batch put_all
+returns-clause-run c = rw (sym c.is_ready.ensures ∙ c.if-not-is_ready.false) (onward_ok _ _ _ _ c.output_batch.new.writer _ _ c.in_ok-output_batch.ensures.run _ refl)

@@ -1,47 +1,34 @@
 -- `try_output_batches` meets its contract. The invariant: what the batches from here on leave is what all leave. Assumes nothing.
-use Prim.Native.Nat.{suc, ◌-◌}
-use mathlib.Core.Path.{◌≡◌, refl, sym, ap, ◌∙◌}
+use Prim.Native.Nat.{◌+◌, ◌-◌}
+use mathlib.Core.Path.{◌≡◌, refl, ap, ◌∙◌}
 use native.Mathlib.Omega.{arith}
-use Rattle.steps.specs.Answers.{tape_at}
-use Rattle.steps.specs.Steps.{out, put_all}
+use Rattle.std.proofs.lemmas.Result.{err_from_is_err_and}
+use Rattle.steps.specs.Steps.{put_all}
 use Rattle.steps.specs.Runs.{leaves}
-use Rattle.state.specs.State.{nodes}
-use Rattle.state.proofs.WordsCode.{header_inside}
-use Rattle.work.specs.Work.{beside, batches_from}
-use Rattle.work.specs.Shape.{tried_verdict}
-use Rattle.work.proofs.BatchTurnCode.{tried_goes, tried_stops, none_left}
+use Rattle.state.specs.State.{ahead, current_epoch}
+use Rattle.work.proofs.BatchTurnCode.{tried_goes, tried_over, tried_ends, none_left}
 use Rattle.work.proofs.honey_badger.try_output_batches.Goals as goal
 
-pub bounds-state-3 : goal.bounds-state-3
-bounds-state-3 c = omega (arith, header_inside c.args.state.now c.requires.0)
+pub loop-number-init : goal.loop-number-init
+loop-number-init c =
+    let all : current_epoch c.args.state.now + ahead c.args.state.now + 1 - current_epoch c.args.state.now ≡ ahead c.args.state.now + 1 = omega arith in
+    record { next = refl; run = rw all; table = refl }
 
-pub overflow_add-left : goal.overflow_add-left
-overflow_add-left c = omega (arith, c.requires.0.near)
+pub returns-in_err-try_output_at-clause-run : goal.returns-in_err-try_output_at-clause-run
+returns-in_err-try_output_at-clause-run c =
+    let p = err_from_is_err_and c.from_residual.result c.from_residual.ensures.1 in
+    rw (p.1, p.2, c.loop-number.invariant.next) (tried_ends _ _ _ c.loop-number.number _ _ _ c.in_err-try_output_at.ensures.run c.loop-number-test.true _ refl) ∙ c.loop-number.invariant.run
 
-pub bounds-state-10 : goal.bounds-state-10
-bounds-state-10 c = omega (arith, header_inside c.args.state.now c.requires.0)
+pub returns-then-not-branch-clause-run : goal.returns-then-not-branch-clause-run
+returns-then-not-branch-clause-run c = rw c.loop-number.invariant.next (tried_over _ _ _ c.loop-number.number _ _ _ (rw c.if-not-branch.true at c.in_ok-try_output_at.ensures.run) c.loop-number-test.true refl) ∙ c.loop-number.invariant.run
 
-pub loop-left-init : goal.loop-left-init
-loop-left-init c = (omega (arith, c.requires.0.near), omega arith, refl, refl)
+pub loop-number-preserved : goal.loop-number-preserved
+loop-number-preserved c = record {
+  next = refl;
+  run = tried_goes _ _ _ c.loop-number.number _ _ _ (rw c.if-not-branch.false at c.in_ok-try_output_at.ensures.run) c.loop-number-test.true refl ∙ c.loop-number.invariant.run;
+  table = c.try_output_at.ensures.table ∙ c.loop-number.invariant.table;
+}
 
-pub try_output_at-tried-requires : goal.try_output_at-tried-requires
-try_output_at-tried-requires c = (c.requires.0, c.requires.1)
-
-pub shape_of-table-in_default : goal.shape_of-table-in_default
-shape_of-table-in_default c = (c.try_output_at-tried.auto.table ∙ c.loop-left.invariant.2)
-
-pub returns-in_default : goal.returns-in_default
-returns-in_default c = tried_stops (nodes c.args.state.now) (beside c.args.state.now c.args.epoch c.args.words.now) (c.loop-left.left - 1) c.loop-left.next _ _ _ c.try_output_at-tried.ensures c.try_output_at-tried.result.outcome c.in_default.not-Done refl ∙ (ap (λ k. leaves (out c.loop-left.s c.loop-left.table) (batches_from (nodes c.args.state.now) (beside c.args.state.now c.args.epoch c.args.words.now) k c.loop-left.next (tape_at c.args.answers.now c.loop-left.place))) (sym (let z : c.loop-left.left ≡ suc (c.loop-left.left - 1) = omega arith in z)) ∙ c.loop-left.invariant.3)
-
-pub overflow_add-next : goal.overflow_add-next
-overflow_add-next c = omega (arith, c.requires.0.near, c.requires.0.epoch)
-
-pub loop-left-preserved : goal.loop-left-preserved
-loop-left-preserved c = (omega arith, omega arith, (c.try_output_at-tried.auto.table ∙ c.loop-left.invariant.2), tried_goes (nodes c.args.state.now) (beside c.args.state.now c.args.epoch c.args.words.now) (c.loop-left.left - 1) c.loop-left.next _ _ _ c.try_output_at-tried.ensures (ap tried_verdict c.in-Done.is) ∙ (ap (λ k. leaves (out c.loop-left.s c.loop-left.table) (batches_from (nodes c.args.state.now) (beside c.args.state.now c.args.epoch c.args.words.now) k c.loop-left.next (tape_at c.args.answers.now c.loop-left.place))) (sym (let z : c.loop-left.left ≡ suc (c.loop-left.left - 1) = omega arith in z)) ∙ c.loop-left.invariant.3))
-
-pub shape_of-table : goal.shape_of-table
-shape_of-table c = c.loop-left.invariant.2
-
-pub returns : goal.returns
+pub returns-clause-run : goal.returns-clause-run
 unfolding put_all
-returns c = ap (leaves _) (none_left (nodes c.args.state.now) (beside c.args.state.now c.args.epoch c.args.words.now) c.loop-left.left c.loop-left.next _ (omega arith)) ∙ c.loop-left.invariant.3
+returns-clause-run c = rw c.loop-number.invariant.next (ap (leaves _) (none_left _ _ _ c.loop-number.number _ (omega arith))) ∙ c.loop-number.invariant.run
