@@ -430,11 +430,11 @@ fn input_subset(
 {
     match input {
         SubsetInput::Proposal => {
-            subset::lent::propose(epoch, net, Failure::InputSubset, reader, writer)
+            subset::subset::propose(epoch, net, Failure::InputSubset, reader, writer)
         }
         SubsetInput::Message(content, p) => {
             let error = Failure::HandleSubsetMessage;
-            subset::lent::handle_message(epoch, net, error, content, p, reader, writer)
+            subset::subset::handle_message(epoch, net, error, content, p, reader, writer)
         }
     }
 }
