@@ -1,7 +1,7 @@
 // Reply 5: whether a table of words is an answer table, as document 01 has it.
 #![tactic(auto)]
 
-ghost use Rattle.std.specs.Prelude.{◌≡◌, ◌≤◌};
+ghost use Rattle.std.specs.Prelude.{◌≡◌, ◌/◌, ◌<◌, ◌≤◌, true, length};
 ghost use Rattle.steps.specs.Table.{handle, record_ok, context_after, shape_ok, link_ok, may_follow, table_ok};
 
 use steps::numbers::{
@@ -18,6 +18,8 @@ pub fn is_handle(b: u64) -> bool
 }
 
 // Whether a record keeps its kind's own range for a and b. The context is the kind of the answer that a part would belong to, or 0.
+// Kinds are the numbers that the host writes, any number among them, and 0 is none of them: an Option beside would let `Some(0)`, and be no plainer.
+#[tactic(auto, unfolding(steps::specs::Table::record_ok))]
 pub fn record_ok(n: u64, context: u64, kind: u64, a: u64, b: u64) -> bool
     ensures { result ≡ record_ok n context kind a b }
 {
@@ -46,6 +48,7 @@ pub fn record_ok(n: u64, context: u64, kind: u64, a: u64, b: u64) -> bool
 }
 
 // The context for what follows a record: an answer of 3 to 7 with a = 1 opens one, its parts keep it, all else ends it.
+#[tactic(auto, unfolding(steps::specs::Table::context_after))]
 fn context_after(context: u64, kind: u64, a: u64) -> u64
     ensures { result ≡ context_after context kind a }
 {
@@ -57,8 +60,10 @@ fn context_after(context: u64, kind: u64, a: u64) -> u64
 }
 
 // The table's length, and the three zeros of record 0.
+#[tactic(auto, unfolding(steps::specs::Table::shape_ok))]
 pub fn shape_ok(table: &[u64]) -> bool
-    ensures { result ≡ shape_ok table.now }
+    ensures value { result ≡ shape_ok table.now }
+    ensures long { result ≡ true → 4 ≤ length table.now }
 {
     let len = table.len();
     if len < 4 {
@@ -68,16 +73,20 @@ pub fn shape_ok(table: &[u64]) -> bool
 }
 
 // Whether record `own` may have this next: 0, or above its own index and inside the table.
+#[tactic(auto, unfolding(steps::specs::Table::link_ok))]
 pub fn link_ok(table: &[u64], own: usize, next: usize) -> bool
-    ensures { result ≡ link_ok table.now own next }
+    ensures value { result ≡ link_ok table.now own next }
+    ensures inside { result ≡ true → 1 ≤ next → (own < next) × (next < length table.now / 4) }
 {
     (next == 0) | ((own < next) & (next < table.len() / 4))
 }
 
 // Whether record `i` may follow record `own`: it may be its next, and it keeps its kind's rule.
+#[tactic(auto, unfolding(steps::specs::Table::may_follow))]
 fn may_follow(n: u64, answers: &[u64], own: usize, i: usize, context: u64) -> bool
     requires { 1 ≤ i }
-    ensures { result ≡ may_follow n answers.now own i context }
+    ensures value { result ≡ may_follow n answers.now own i context }
+    ensures inside { result ≡ true → (own < i) × (i < length answers.now / 4) }
 {
     if !link_ok(answers, own, i) {
         return false;
@@ -92,6 +101,7 @@ fn may_follow(n: u64, answers: &[u64], own: usize, i: usize, context: u64) -> bo
 }
 
 // Whether the words are an answer table for a network of n nodes. Records off the chain are not looked at.
+#[tactic(auto, unfolding(steps::specs::Table::table_ok))]
 pub fn table_ok(n: u64, answers: &[u64]) -> bool
     ensures { result ≡ table_ok n answers.now }
 {

@@ -95,7 +95,7 @@ pub fn message_checks(
     epoch_check(state)
 }
 
-// The content that the numbers stand for.
+// The content that the host's numbers stand for. They have passed their check, so it is no `TryFrom`.
 #[tactic(auto, unfolding(crate::specs::Calls::content_of))]
 pub fn content_of(content: u64, item: u64) -> MessageContent
     ensures { result ≡ content_of content item }

@@ -7,7 +7,8 @@ pub const ACCEPTED_AT: usize = 2;
 // Those from here on, up to the records, are 0.
 pub const RESERVED_AT: usize = 4;
 
-// The status: there is no such epoch, `SubsetState::Ongoing`, `SubsetState::Complete`.
+// The status: there is no such epoch, `SubsetState::Ongoing`, `SubsetState::Complete`. A number because it stands in a word that the host keeps
+// (docs/STATE.md); it is read and written where it stands.
 pub const STATUS_VACANT: u64 = 0;
 
 pub const STATUS_ONGOING: u64 = 1;

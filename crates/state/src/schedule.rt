@@ -6,7 +6,7 @@ ghost use Rattle.state.specs.Shape.{Divides};
 use crate::EncryptionSchedule;
 use steps::numbers::SCHEDULE_LIMIT;
 
-// The kinds of a schedule.
+// The kinds of a schedule: numbers, as the host gives them and keeps them in the state (docs/STATE.md).
 pub const ALWAYS: u64 = 0;
 
 pub const NEVER: u64 = 1;
@@ -15,7 +15,7 @@ pub const EVERY_NTH_EPOCH: u64 = 2;
 
 pub const TICK_TOCK: u64 = 3;
 
-// The schedule of this kind with its numbers. A kind above the last reads as the last.
+// The schedule of this kind with its numbers. A kind above the last reads as the last, so it is no `TryFrom`, and a `From` of three numbers is no plainer.
 #[tactic(auto, unfolding(crate::specs::Schedule::schedule_of))]
 pub fn schedule_of(kind: u64, a: u64, b: u64) -> EncryptionSchedule
     ensures { result ≡ schedule_of kind a b }

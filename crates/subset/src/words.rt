@@ -23,7 +23,7 @@ pub const VALUE_FIELD: usize = 1;
 
 pub const ARRIVAL_FIELD: usize = 7;
 
-// A proposal's tag.
+// A proposal's tag, a number because it stands in a word that the host keeps (docs/STATE.md). It is read and written here alone.
 pub const TAG_ONGOING: u64 = 0;
 
 pub const TAG_HAS_VALUE: u64 = 1;
