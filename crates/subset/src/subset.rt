@@ -17,6 +17,7 @@ use steps::reader::{Content, Reader};
 use steps::step::Writer;
 
 // The number of validators from which we have already received a proposal.
+#[tactic(auto, using(crate::proofs::Bits::received_ones))]
 pub fn received_proposals(epoch: &[u64], n: usize) -> usize
     requires { EpochWords n epoch.now }
     ensures { result ≡ received_proposals n epoch.now }
@@ -26,6 +27,7 @@ pub fn received_proposals(epoch: &[u64], n: usize) -> usize
 }
 
 // The number of agreements that have decided "yes".
+#[tactic(auto, using(crate::proofs::Bits::accepted_ones))]
 fn count_accepted(epoch: &[u64], n: usize) -> usize
     requires { EpochWords n epoch.now }
     ensures { result ≡ count_accepted n epoch.now }
@@ -34,6 +36,7 @@ fn count_accepted(epoch: &[u64], n: usize) -> usize
     accepted.count_ones() as usize
 }
 
+#[tactic(auto, using(crate::proofs::Bits::incomplete_none))]
 fn all_complete(epoch: &[u64], n: usize) -> bool
     requires { EpochWords n epoch.now }
     ensures { result ≡ all_complete n epoch.now }
@@ -112,6 +115,7 @@ fn vote_all(
 }
 
 // A round of votes where exactly N − f are accepted.
+#[tactic(auto, unfolding(crate::specs::Subset::votes, steps::specs::Steps::put_all))]
 fn votes(
     epoch: &mut [u64],
     net: NetworkInfo,
@@ -159,6 +163,7 @@ fn try_output(
 }
 
 // Proposes a value for the subset: the own proposal is broadcast. An observer proposes nothing. It answers whether the subset is done.
+#[tactic(auto, unfolding(crate::specs::Subset::propose, steps::specs::Steps::put_all))]
 pub fn propose(
     epoch: &mut [u64],
     net: NetworkInfo,
