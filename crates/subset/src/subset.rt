@@ -8,6 +8,7 @@ ghost use Rattle.steps.specs.Runs.{leaves};
 ghost use Rattle.subset.specs.Subset.{received_proposals, count_accepted, all_complete, at_proposal, vote_from, votes, try_output, propose, handle_message};
 ghost use Rattle.subset.specs.Outcomes.{EpochWords, answer_at, message_kind};
 
+use crate::words;
 use crate::words::{ACCEPTED_TAGS, DECIDED_AT, INCOMPLETE_TAGS, RECEIVED_TAGS, RECORD_FIELDS};
 use network::network_info::NetworkInfo;
 use proposal::proposal_state::Transition;
@@ -16,28 +17,31 @@ use steps::reader::{Content, Reader};
 use steps::step::Writer;
 
 // The number of validators from which we have already received a proposal.
+#[tactic(auto, using(crate::proofs::Bits::received_ones))]
 pub fn received_proposals(epoch: &[u64], n: usize) -> usize
     requires { EpochWords n epoch.now }
     ensures { result ≡ received_proposals n epoch.now }
 {
-    let received = crate::words::proposals_in(epoch, RECORD_FIELDS + n, n, RECEIVED_TAGS);
-    u64::count_ones(received) as usize
+    let received = words::proposals_in(epoch, RECORD_FIELDS + n, n, RECEIVED_TAGS);
+    received.count_ones() as usize
 }
 
 // The number of agreements that have decided "yes".
+#[tactic(auto, using(crate::proofs::Bits::accepted_ones))]
 fn count_accepted(epoch: &[u64], n: usize) -> usize
     requires { EpochWords n epoch.now }
     ensures { result ≡ count_accepted n epoch.now }
 {
-    let accepted = crate::words::proposals_in(epoch, RECORD_FIELDS + n, n, ACCEPTED_TAGS);
-    u64::count_ones(accepted) as usize
+    let accepted = words::proposals_in(epoch, RECORD_FIELDS + n, n, ACCEPTED_TAGS);
+    accepted.count_ones() as usize
 }
 
+#[tactic(auto, using(crate::proofs::Bits::incomplete_none))]
 fn all_complete(epoch: &[u64], n: usize) -> bool
     requires { EpochWords n epoch.now }
     ensures { result ≡ all_complete n epoch.now }
 {
-    crate::words::proposals_in(epoch, RECORD_FIELDS + n, n, INCOMPLETE_TAGS) == 0
+    words::proposals_in(epoch, RECORD_FIELDS + n, n, INCOMPLETE_TAGS) == 0
 }
 
 // Stores the state that a proposal has come to, and adds its output to the list of contributions (`convert_step`).
@@ -52,9 +56,9 @@ fn store_transition(
     ensures { (error : ℕ) (tape : Tape) → left_reading epoch.new result tape
         ≡ at_proposal net error p epoch.old (left_reading moved.state moved.outcome tape) }
 {
-    crate::words::store_proposal(epoch, net.num_nodes, p, moved.state);
+    words::store_proposal(epoch, net.num_nodes, p, moved.state);
     if let Some(value) = moved.outcome? {
-        crate::words::add_contribution(epoch, net.num_nodes, p, value);
+        words::add_contribution(epoch, net.num_nodes, p, value);
     }
     Ok(())
 }
@@ -77,7 +81,7 @@ fn answer_at(
         ≡ leaves (out_of writer.old) (answer_at net (failure_number error) content (answer_number kind) p epoch.old reader.old) }
     ensures table { same_table writer.old writer.new }
 {
-    let state = crate::words::load_proposal(epoch, net.num_nodes, p);
+    let state = words::load_proposal(epoch, net.num_nodes, p);
     let moved = match content {
         Content::Broadcast if state.asks_broadcast() => {
             state.handle_broadcast(error, p, kind, reader, writer)
@@ -103,22 +107,15 @@ fn vote_all(
         ≡ leaves (out_of writer.old) (vote_from net (failure_number error) net.num_nodes 0 epoch.old reader.old) }
     ensures table { same_table writer.old writer.new }
 {
+    let (content, kind) = (Content::Agreement, AnswerKind::ProposeFalse);
     for p in 0..net.num_nodes {
-        answer_at(
-            epoch,
-            net,
-            error,
-            Content::Agreement,
-            AnswerKind::ProposeFalse,
-            p,
-            reader,
-            writer,
-        )?;
+        answer_at(epoch, net, error, content, kind, p, reader, writer)?;
     }
     Ok(())
 }
 
 // A round of votes where exactly N − f are accepted.
+#[tactic(auto, unfolding(crate::specs::Subset::votes, steps::specs::Steps::put_all))]
 fn votes(
     epoch: &mut [u64],
     net: NetworkInfo,
@@ -166,6 +163,7 @@ fn try_output(
 }
 
 // Proposes a value for the subset: the own proposal is broadcast. An observer proposes nothing. It answers whether the subset is done.
+#[tactic(auto, unfolding(crate::specs::Subset::propose, steps::specs::Steps::put_all))]
 pub fn propose(
     epoch: &mut [u64],
     net: NetworkInfo,
@@ -181,17 +179,9 @@ pub fn propose(
     if !net.is_validator() {
         return Ok(false);
     }
-    let kind = AnswerKind::BroadcastProposal;
-    answer_at(
-        epoch,
-        net,
-        error,
-        Content::Broadcast,
-        kind,
-        net.our_id,
-        reader,
-        writer,
-    )?;
+    let (content, kind) = (Content::Broadcast, AnswerKind::BroadcastProposal);
+    let own = net.our_id;
+    answer_at(epoch, net, error, content, kind, own, reader, writer)?;
     try_output(epoch, net, error, reader, writer)
 }
 
@@ -220,15 +210,7 @@ pub fn handle_message(
         ≡ leaves (out_of writer.old) (handle_message net (failure_number error) content proposer epoch.old reader.old) }
     ensures table { same_table writer.old writer.new }
 {
-    answer_at(
-        epoch,
-        net,
-        error,
-        content,
-        message_kind(content),
-        proposer,
-        reader,
-        writer,
-    )?;
+    let kind = message_kind(content);
+    answer_at(epoch, net, error, content, kind, proposer, reader, writer)?;
     try_output(epoch, net, error, reader, writer)
 }

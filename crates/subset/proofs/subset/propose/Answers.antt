@@ -1,14 +1,9 @@
 -- `propose` meets its contract: an observer, or the own proposal is broadcast. Assumes nothing.
 use mathlib.Core.Path.{sym, ◌∙◌}
 use Rattle.std.proofs.lemmas.Result.{err_from_is_err_and}
-use Rattle.steps.specs.Steps.{put_all}
 use Rattle.steps.proofs.LentRuns.{onward_ok, onward_err}
 use Rattle.subset.specs.Subset.{propose}
 use Rattle.subset.proofs.subset.propose.Goals as goal
-
-pub returns-then-not-is_validator-clause-run : goal.returns-then-not-is_validator-clause-run
-unfolding propose put_all
-returns-then-not-is_validator-clause-run c = rw (sym c.is_validator.ensures ∙ c.if-not-is_validator.true)
 
 pub returns-in_err-answer_at-clause-run : goal.returns-in_err-answer_at-clause-run
 unfolding propose

@@ -11,4 +11,4 @@ abbrev pub invariant-loop-p : goal.invariant-loop-p
 invariant-loop-p l =
     (length l.epoch ≡ length l.initial.epoch) × same_table l.initial.writer l.writer
     × (leaves (out_of l.writer) (vote_from l.net (failure_number l.error) (l.p-end - l.p) l.p l.epoch l.reader)
-      ≡ leaves (out_of l.initial.writer) (vote_from l.net (failure_number l.error) l.p-end 0 l.initial.epoch l.initial.reader))
+    ≡ leaves (out_of l.initial.writer) (vote_from l.net (failure_number l.error) l.p-end 0 l.initial.epoch l.initial.reader))
