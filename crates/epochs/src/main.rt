@@ -14,9 +14,10 @@
 // after it, as in the input.
 #![tactic(auto)]
 
-ghost use Rattle.std.specs.Prelude.{◌≡◌, ◌≤◌, ◌<◌, length};
+ghost use Rattle.std.specs.Prelude.{◌≡◌, ◌≤◌, ◌<◌, length, IfSome};
 ghost use Rattle.network.specs.Network.{Network};
 ghost use Rattle.subset.specs.Words.{epoch_length};
+ghost use Rattle.epoch.specs.Outcomes.{Comes};
 ghost use Rattle.epochwords.specs.Shape.{EpochWords};
 
 use epoch::MessageContent;
@@ -24,8 +25,9 @@ use epoch::epoch_state::{Input, Outcome, SubsetInput, handle_from};
 use epochwords::SubsetHandlingStrategy;
 use epochwords::batch::{Handed, is_ready, output_batch_from};
 use epochwords::words::{STATUS_AT, STATUS_VACANT};
-use lines::{line_end, line_ends, number, numbers, say};
+use lines::{ended, first_of, line_ends, number, numbers};
 use network::network_info::NetworkInfo;
+use std::alloc::Global;
 use std::io::{self, BufWriter, Read, Write};
 use steps::numbers::{
     AGREEMENT_CONTENT, ANSWER_NOT_NEXT, ANSWERS_UNREAD, BROADCAST_CONTENT, CREATE_SUBSET,
@@ -35,31 +37,94 @@ use steps::reader::{Answer, Content};
 use steps::step::Step;
 use subset::words::{RECORD_FIELDS, RECORDS_AT};
 
-// Content 0 stands for a propose.
-const PROPOSE: u64 = 0;
+// Of the input, and of a line.
+const MOST_BYTES: u64 = 131_072;
 
-// The epoch before a call: its network line, and its words.
-#[derive(Clone, Copy)]
-struct Before {
-    network: [u64; 6],
-    words: [u64; 128],
+const MOST_NUMBERS: usize = 256;
+
+// In each chain of a step, so that its table has at most 256 words.
+const MOST_ENTRIES: usize = 21;
+
+// What a line gives or asks for.
+#[derive(Clone, Copy, Debug, PartialEq, Eq)]
+enum Kind {
+    Network,
+    Words,
+    Propose,
+    Message,
 }
 
+// The first byte of a line that asks for nothing.
+#[derive(Clone, Copy, Debug, PartialEq, Eq)]
+struct OtherLine(u8);
+
+impl TryFrom<u8> for Kind {
+    type Error = OtherLine;
+
+    fn try_from(first: u8) -> Result<Self, OtherLine> {
+        match first {
+            b'n' => Ok(Kind::Network),
+            b'w' => Ok(Kind::Words),
+            b'p' => Ok(Kind::Propose),
+            b'm' => Ok(Kind::Message),
+            _ => Err(OtherLine(first)),
+        }
+    }
+}
+
+// A network, and how its calls are handled.
 #[derive(Clone, Copy)]
 struct Setting {
     net: NetworkInfo,
     strategy: SubsetHandlingStrategy,
     encrypted: bool,
+    ghost in_range: { Network net × (net.num_nodes ≤ 7) },
 }
 
+// Numbers with which there is no such network.
+#[derive(Clone, Copy, Debug, PartialEq, Eq)]
+struct OutOfRange;
+
+// From the numbers of a network line.
+impl TryFrom<[u64; 6]> for Setting {
+    type Error = OutOfRange;
+
+    fn try_from(given: [u64; 6]) -> Result<Self, OutOfRange> {
+        let [nodes, faulty, own, key, strategy, encrypted] = given;
+        if 7 < nodes || nodes <= faulty || nodes <= 3 * faulty || nodes < own {
+            return Err(OutOfRange);
+        }
+        let net = NetworkInfo {
+            num_nodes: nodes as usize,
+            num_faulty: faulty as usize,
+            our_id: own as usize,
+            has_key: key != 0,
+        };
+        Ok(Setting {
+            net,
+            strategy: strategy_of(strategy),
+            encrypted: encrypted != 0,
+        })
+    }
+}
+
+// A propose, where there is no message, or a message of a sender for a proposer.
 #[derive(Clone, Copy)]
 struct Call {
+    how: Setting,
     epoch: u64,
     current: bool,
     sender: usize,
-    content: u64,
     proposer: usize,
-    item: u64,
+    message: Option<MessageContent>,
+    ghost nodes: { (sender < how.net.num_nodes) × (proposer < how.net.num_nodes) },
+}
+
+// What the lines so far give a call: the network, if it is one, and the epoch's words.
+#[derive(Clone, Copy)]
+struct Before {
+    how: Option<Setting>,
+    words: [u64; 128],
 }
 
 // What a run comes to: its reply, and whether the batch went out.
@@ -71,35 +136,65 @@ struct Ran {
 }
 
 fn strategy_of(number: u64) -> SubsetHandlingStrategy {
-    if number == 0 {
-        return SubsetHandlingStrategy::Incremental;
-    }
-    SubsetHandlingStrategy::AllAtEnd
-}
-
-fn setting_of(network: [u64; 6]) -> Setting {
-    let net = NetworkInfo {
-        num_nodes: network[0] as usize,
-        num_faulty: network[1] as usize,
-        our_id: network[2] as usize,
-        has_key: network[3] != 0,
-    };
-    let strategy = strategy_of(network[4]);
-    Setting {
-        net,
-        strategy,
-        encrypted: network[5] != 0,
+    match number {
+        0 => SubsetHandlingStrategy::Incremental,
+        _ => SubsetHandlingStrategy::AllAtEnd,
     }
 }
 
-fn content_of(content: u64, item: u64) -> MessageContent {
-    if content == BROADCAST_CONTENT {
-        return MessageContent::Subset(Content::Broadcast);
+// Content 0 stands for a propose.
+fn message_of(content: u64, item: u64) -> Option<MessageContent> {
+    match content {
+        0 => None,
+        BROADCAST_CONTENT => Some(MessageContent::Subset(Content::Broadcast)),
+        AGREEMENT_CONTENT => Some(MessageContent::Subset(Content::Agreement)),
+        _ => Some(MessageContent::DecryptionShare(item)),
     }
-    if content == AGREEMENT_CONTENT {
-        return MessageContent::Subset(Content::Agreement);
+}
+
+impl Call {
+    fn propose(how: Setting, epoch: u64, current: u64) -> Self {
+        Call {
+            how,
+            epoch,
+            current: current != 0,
+            sender: 0,
+            proposer: 0,
+            message: None,
+        }
     }
-    MessageContent::DecryptionShare(item)
+
+    // From the numbers of a message line, if its nodes are in the network.
+    fn message(how: Setting, given: [u64; 6]) -> Option<Self> {
+        let [epoch, current, sender, content, proposer, item] = given;
+        let net = how.net;
+        if net.num_nodes <= sender as usize || net.num_nodes <= proposer as usize {
+            return None;
+        }
+        Some(Call {
+            how,
+            epoch,
+            current: current != 0,
+            sender: sender as usize,
+            proposer: proposer as usize,
+            message: message_of(content, item),
+        })
+    }
+
+    // What comes to the epoch.
+    fn input(self) -> Input
+        ensures { Comes result self.how.net.num_nodes }
+    {
+        match self.message {
+            None => Input::Subset(SubsetInput::Proposal),
+            Some(MessageContent::Subset(message)) => {
+                Input::Subset(SubsetInput::Message(message, self.proposer))
+            }
+            Some(MessageContent::DecryptionShare(share)) => {
+                Input::Share(self.sender, self.proposer, share)
+            }
+        }
+    }
 }
 
 // Builds the epoch where it is vacant: 0, or the reply of a call that ends with this.
@@ -124,15 +219,15 @@ fn build(epoch: &mut [u64], n: usize, answers: &[u64], place: &mut usize) -> u64
 // The epoch's propose or message.
 fn enter(
     epoch: &mut [u64],
-    how: Setting,
     call: Call,
     answers: &[u64],
     place: &mut usize,
     step: Step,
     words: &mut [u64],
 ) -> epoch::epoch_state::Ran
-    requires { Network how.net × EpochWords how.net.num_nodes epoch.old × (call.sender < how.net.num_nodes) × (call.proposer < how.net.num_nodes) }
+    requires { EpochWords call.how.net.num_nodes epoch.old }
 {
+    let how = call.how;
     let net = how.net;
     let strategy = how.strategy;
     let secret = how.encrypted;
@@ -140,29 +235,10 @@ fn enter(
         let outcome = Outcome::Failed(NOT_A_STATE);
         return epoch::epoch_state::Ran { outcome, step };
     }
-    if call.content == PROPOSE {
-        let own = Input::Subset(SubsetInput::Proposal);
-        return handle_from(
-            epoch, net, strategy, secret, own, answers, place, step, words,
-        );
-    }
-    let sender = call.sender;
-    let proposer = call.proposer;
-    let content = content_of(call.content, call.item);
-    match content {
-        MessageContent::Subset(message) => {
-            let input = Input::Subset(SubsetInput::Message(message, proposer));
-            handle_from(
-                epoch, net, strategy, secret, input, answers, place, step, words,
-            )
-        }
-        MessageContent::DecryptionShare(share) => {
-            let input = Input::Share(sender, proposer, share);
-            handle_from(
-                epoch, net, strategy, secret, input, answers, place, step, words,
-            )
-        }
-    }
+    let input = call.input();
+    handle_from(
+        epoch, net, strategy, secret, input, answers, place, step, words,
+    )
 }
 
 // The batch of the epoch, where it may go out.
@@ -179,7 +255,7 @@ fn hand_out(
 {
     let size = RECORD_FIELDS + n;
     let ready = is_ready(epoch, size, n);
-    if !(call.current & ready) {
+    if !call.current || !ready {
         return Ran {
             reply: SUCCESS,
             batch: false,
@@ -207,15 +283,15 @@ fn hand_out(
 // The call, from its first answer on.
 fn run(
     epoch: &mut [u64],
-    how: Setting,
     call: Call,
     answers: &[u64],
     place: &mut usize,
     step: Step,
     words: &mut [u64],
 ) -> Ran
-    requires { Network how.net × EpochWords how.net.num_nodes epoch.old × (call.sender < how.net.num_nodes) × (call.proposer < how.net.num_nodes) }
+    requires { EpochWords call.how.net.num_nodes epoch.old }
 {
+    let how = call.how;
     let net = how.net;
     let n = net.num_nodes;
     let built = build(epoch, n, answers, place);
@@ -226,7 +302,7 @@ fn run(
             step,
         };
     }
-    let entered = enter(epoch, how, call, answers, place, step, words);
+    let entered = enter(epoch, call, answers, place, step, words);
     let outcome = entered.outcome;
     let done = entered.step;
     match outcome {
@@ -246,15 +322,12 @@ fn run(
 
 // The place of a table's first answer.
 fn first(answers: &[u64]) -> usize {
-    if answers.len() == 0 {
-        return 0;
-    }
-    answers[0] as usize
+    answers.first().map_or(0, |first| *first as usize)
 }
 
 // The reply of a run that has stopped at this place: each answer must be read.
 fn reply_at(reply: u64, place: usize) -> u64 {
-    if (reply != ANSWER_NOT_NEXT) & (place != 0) {
+    if reply != ANSWER_NOT_NEXT && place != 0 {
         return ANSWERS_UNREAD;
     }
     reply
@@ -269,28 +342,12 @@ fn epoch_length(n: usize) -> usize
 }
 
 // The whole call, on the epoch's words at the front of these.
-fn run_in(
-    all: &mut [u64],
-    how: Setting,
-    call: Call,
-    answers: &[u64],
-    step: Step,
-    words: &mut [u64],
-) -> Ran
-    requires { (128 ≤ length all.old) × Network how.net × (how.net.num_nodes ≤ 7) × (call.sender < how.net.num_nodes) × (call.proposer < how.net.num_nodes) }
-{
+fn run_in(all: &mut [u64; 128], call: Call, answers: &[u64], step: Step, words: &mut [u64]) -> Ran {
+    let how = call.how;
     let net = how.net;
     let length = epoch_length(net.num_nodes);
     let mut place = first(answers);
-    let ran = run(
-        &mut all[..length],
-        how,
-        call,
-        answers,
-        &mut place,
-        step,
-        words,
-    );
+    let ran = run(&mut all[..length], call, answers, &mut place, step, words);
     let batch = ran.batch;
     let done = ran.step;
     Ran {
@@ -300,56 +357,37 @@ fn run_in(
     }
 }
 
-// The reply and the first m words of the step table.
-fn show<W: Write>(out: &mut W, reply: u64, table: &[u64; 256], m: usize) -> io::Result<()>
-    requires { m ≤ 256 }
-{
-    say(out, b"r")?;
-    number(out, reply)?;
-    let mut i: usize = 0;
-    while i < m {
-        number(out, table[i])?;
-        i += 1;
+// The reply and the words of the step table.
+fn show<W: Write>(out: &mut W, reply: u64, table: &[u64]) -> io::Result<()> {
+    write!(out, "r {reply}")?;
+    for word in table {
+        number(out, *word)?;
     }
     line_ends(out)
 }
 
-// The word at this index, if it is not 0.
-fn show_word<W: Write>(out: &mut W, i: usize, word: u64) -> io::Result<()> {
-    if word != 0 {
-        number(out, i as u64)?;
-        number(out, word)?;
-    }
-    Ok(())
-}
-
+// Index and word of those that are not 0.
 fn show_words<W: Write>(out: &mut W, words: &[u64; 128]) -> io::Result<()> {
-    say(out, b"w")?;
-    let mut i: usize = 0;
-    while i < 128 {
-        show_word(out, i, words[i])?;
-        i += 1;
+    write!(out, "w")?;
+    for (i, word) in words.iter().enumerate() {
+        if *word != 0 {
+            write!(out, " {i} {word}")?;
+        }
     }
     line_ends(out)
 }
 
-// How many words a counted step takes: at most 256, or else 0.
-fn words_of(counted: Step) -> usize
-    ensures { result ≤ 256 }
+// How many words a counted step takes, if its table can have them.
+fn words_of(counted: Step) -> Option<usize>
+    ensures { IfSome result (λ m. 4 ≤ m) }
 {
     let messages = counted.messages;
     let faults = counted.faults;
     let outputs = counted.outputs;
-    if 21 < messages.at {
-        return 0;
+    if MOST_ENTRIES < messages.at || MOST_ENTRIES < faults.at || MOST_ENTRIES < outputs.at {
+        return None;
     }
-    if 21 < faults.at {
-        return 0;
-    }
-    if 21 < outputs.at {
-        return 0;
-    }
-    (1 + messages.at + faults.at + outputs.at) * 4
+    Some((1 + messages.at + faults.at + outputs.at) * 4)
 }
 
 // Writes a counted step's header and answers the step that writes its records.
@@ -359,13 +397,7 @@ fn begin(counted: Step, table: &mut [u64], epoch: u64) -> Step
     let messages = counted.messages;
     let faults = counted.faults;
     let outputs = counted.outputs;
-    if 21 < messages.at {
-        return counted;
-    }
-    if 21 < faults.at {
-        return counted;
-    }
-    if 21 < outputs.at {
+    if MOST_ENTRIES < messages.at || MOST_ENTRIES < faults.at || MOST_ENTRIES < outputs.at {
         return counted;
     }
     let step = counted.writing();
@@ -376,23 +408,20 @@ fn begin(counted: Step, table: &mut [u64], epoch: u64) -> Step
 // The second run, which writes what the first has counted.
 fn write<W: Write>(
     out: &mut W,
+    alloc: Global,
     before: [u64; 128],
-    how: Setting,
     call: Call,
     answers: &[u64],
     counted: Step,
-) -> io::Result<()>
-    requires { Network how.net × (how.net.num_nodes ≤ 7) × (call.sender < how.net.num_nodes) × (call.proposer < how.net.num_nodes) }
-{
-    let mut table = [0u64; 256];
-    let m = words_of(counted);
-    if m == 0 {
-        return show(out, STEP_TABLE_TOO_SHORT, &table, 0);
-    }
+) -> io::Result<()> {
+    let Some(length) = words_of(counted) else {
+        return show(out, STEP_TABLE_TOO_SHORT, &[]);
+    };
+    let mut table = vec![in alloc; 0; length]?;
     let step = begin(counted, &mut table, call.epoch);
     let mut epoch = before;
-    let ran = run_in(&mut epoch, how, call, answers, step, &mut table);
-    show(out, ran.reply, &table, m)?;
+    let ran = run_in(&mut epoch, call, answers, step, &mut table);
+    show(out, ran.reply, &table)?;
     if !ran.batch {
         show_words(out, &epoch)?;
     }
@@ -402,167 +431,80 @@ fn write<W: Write>(
 // Both runs of a call. One that fails has no second, and its step is an empty one.
 fn call_twice<W: Write>(
     out: &mut W,
+    alloc: Global,
     before: [u64; 128],
-    how: Setting,
     call: Call,
     answers: &[u64],
-) -> io::Result<()>
-    requires { Network how.net × (how.net.num_nodes ≤ 7) × (call.sender < how.net.num_nodes) × (call.proposer < how.net.num_nodes) }
-{
+) -> io::Result<()> {
     let mut epoch = before;
-    let mut none = [0u64; 1];
-    let ran = run_in(
-        &mut epoch,
-        how,
-        call,
-        answers,
-        Step::counting(),
-        &mut none[..0],
-    );
+    let ran = run_in(&mut epoch, call, answers, Step::counting(), &mut []);
     let reply = ran.reply;
     if reply == SUCCESS {
         let counted = ran.step;
-        return write(out, before, how, call, answers, counted);
+        return write(out, alloc, before, call, answers, counted);
     }
-    let mut table = [0u64; 256];
+    let mut table = [0u64; 4];
     Step::counting().header(&mut table, call.epoch);
-    show(out, reply, &table, 4)?;
+    show(out, reply, &table)?;
     show_words(out, &epoch)
 }
 
-// A call with these answers, unless a number of it or of its network is out of range.
-fn make<W: Write>(out: &mut W, before: Before, call: Call, answers: &[u64]) -> io::Result<()> {
-    let network = before.network;
-    let words = before.words;
-    let how = setting_of(network);
-    let net = how.net;
-    let n = net.num_nodes;
-    let f = net.num_faulty;
-    if 7 < n {
-        return Ok(());
-    }
-    if n <= f {
-        return Ok(());
-    }
-    if n <= 3 * f {
-        return Ok(());
-    }
-    if n < net.our_id {
-        return Ok(());
-    }
-    if n <= call.sender {
-        return Ok(());
-    }
-    if n <= call.proposer {
-        return Ok(());
-    }
-    call_twice(out, words, how, call, answers)
-}
-
-// A network line's numbers.
-fn network_of(given: &[u64; 256]) -> [u64; 6] {
-    [given[0], given[1], given[2], given[3], given[4], given[5]]
-}
-
 // The words of a line that has them by index.
-fn sparse(given: &[u64; 256], m: usize) -> [u64; 128]
-    requires { m ≤ 256 }
-{
+fn sparse(given: &[u64]) -> [u64; 128] {
     let mut words = [0u64; 128];
-    let mut i: usize = 0;
-    while i + 1 < m {
-        let at = given[i];
-        if at < 128 {
-            words[at as usize] = given[i + 1];
+    let (pairs, _) = given.as_chunks::<2>();
+    for [at, word] in pairs {
+        if let Some(place) = words.get_mut(*at as usize) {
+            *place = *word;
         }
-        i += 2;
     }
     words
 }
 
-// The call of a line with these m numbers.
-fn act<W: Write>(
-    out: &mut W,
-    what: u8,
-    given: &[u64; 256],
-    m: usize,
-    before: Before,
-) -> io::Result<()>
-    requires { m ≤ 256 }
-{
-    let all = &given[..];
-    let epoch = given[0];
-    let current = given[1] != 0;
-    if what == b'p' {
-        if 2 <= m {
-            let call = Call {
-                epoch,
-                current,
-                sender: 0,
-                content: PROPOSE,
-                proposer: 0,
-                item: 0,
-            };
-            return make(out, before, call, &all[2..m]);
-        }
-    }
-    if what == b'm' {
-        if 6 <= m {
-            let call = Call {
-                epoch,
-                current,
-                sender: given[2] as usize,
-                content: given[3],
-                proposer: given[4] as usize,
-                item: given[5],
-            };
-            return make(out, before, call, &all[6..m]);
-        }
-    }
-    Ok(())
-}
-
-// One line of the input: what the next call finds.
-fn line<W: Write>(out: &mut W, text: &[u8], before: Before) -> io::Result<Before> {
-    if text.len() == 0 {
-        return Ok(before);
-    }
-    let what = text[0];
-    let mut given = [0u64; 256];
-    let m = numbers(text, &mut given);
-    if what == b'n' {
-        let network = network_of(&given);
-        let words = before.words;
-        return Ok(Before { network, words });
-    }
-    if what == b'w' {
-        let network = before.network;
-        let words = sparse(&given, m);
-        return Ok(Before { network, words });
-    }
-    act(out, what, &given, m, before)?;
-    Ok(before)
-}
-
-// The lines of the input, in order.
-fn each_line<W: Write>(out: &mut W, text: &[u8]) -> io::Result<()> {
-    let mut before = Before {
-        network: [0; 6],
-        words: [0; 128],
+// One line of the input. Only a network takes a number that the end of the input cuts off.
+fn line<W: Write>(out: &mut W, alloc: Global, line: &[u8], before: &mut Before) -> io::Result<()> {
+    let Some(first) = line.first() else {
+        return Ok(());
     };
-    let mut at: usize = 0;
-    while at < text.len() {
-        let end = line_end(text, at);
-        before = line(out, &text[at..end], before)?;
-        at = end;
+    let Ok(kind) = Kind::try_from(*first) else {
+        return Ok(());
+    };
+    let whole = if kind == Kind::Network {
+        line
+    } else {
+        ended(line)
+    };
+    let given = numbers(alloc, whole, MOST_NUMBERS)?;
+    match kind {
+        Kind::Network => before.how = Setting::try_from(first_of(&given)).ok(),
+        Kind::Words => before.words = sparse(&given),
+        Kind::Propose => {
+            if let (Some(how), [epoch, current, answers @ ..]) = (before.how, given.as_slice()) {
+                let call = Call::propose(how, *epoch, *current);
+                call_twice(out, alloc, before.words, call, answers)?;
+            }
+        }
+        Kind::Message => {
+            if let (Some(how), Some((numbers, answers))) = (before.how, given.split_first_chunk()) {
+                if let Some(call) = Call::message(how, *numbers) {
+                    call_twice(out, alloc, before.words, call, answers)?;
+                }
+            }
+        }
     }
     Ok(())
 }
 
 fn main(rt: HostRuntime) -> io::Result<()> {
     let mut text = Vec::new(rt.alloc());
-    rt.reader().take(131_072).read_to_end(&mut text)?;
+    rt.reader().take(MOST_BYTES).read_to_end(&mut text)?;
     let mut out = BufWriter::new(rt.alloc(), io::writer(&rt))?;
-    each_line(&mut out, &text)?;
+    let mut before = Before {
+        how: None,
+        words: [0; 128],
+    };
+    for read in text.split_inclusive(|b| *b == b'\n') {
+        line(&mut out, rt.alloc(), read, &mut before)?;
+    }
     out.flush()
 }

@@ -1,10 +1,14 @@
 // The text that the test programs read and write: lines of decimal numbers.
 #![tactic(auto)]
 
-ghost use Rattle.std.specs.Prelude.{◌+◌, ◌≤◌, ◌<◌, length, OnOk, ◌++◌, codes};
+ghost use Rattle.std.specs.Prelude.{◌≡◌, ◌+◌, ◌*◌, ◌-◌, ◌<◌, ◌≤◌, ◌^◌, ℕ, length, vec_len, slice_index, get_or, false, true, IfOk, OnOk, ◌++◌, codes};
+ghost use Rattle.std.specs.Char.{is_ascii_digit};
 ghost use Rattle.std.specs.Fmt.{decimal};
 ghost use Rattle.std.specs.Io.KnownBytes.{Appends};
+ghost use Rattle.std.specs.Io.{StartsWith};
+ghost use Rattle.std.specs.Iterator.{at_most};
 
+use std::alloc::{AllocError, Global};
 use std::io;
 use std::io::Write;
 
@@ -26,81 +30,115 @@ pub fn number<W: Write>(out: &mut W, n: u64) -> io::Result<()>
     write!(out, " {n}")
 }
 
-// The digit that a byte stands for, or 10.
-fn digit(b: u8) -> u64
-    ensures { result ≤ 10 }
+// A number with one more digit. One that would not fit in a word stays.
+fn with_digit(value: u64, digit: u8) -> u64
+    ensures fits { value * 10 + (digit - 48) < 2 ^ 64 → result ≡ value * 10 + (digit - 48) }
+    ensures stays { 2 ^ 64 ≤ value * 10 + (digit - 48) → result ≡ value }
 {
-    if b < b'0' {
-        return 10;
-    }
-    if b'9' < b {
-        return 10;
-    }
-    (b - b'0') as u64
+    let digit = u64::from(digit.saturating_sub(b'0'));
+    value
+        .checked_mul(10)
+        .and_then(|tens| tens.checked_add(digit))
+        .unwrap_or(value)
 }
 
-// A number with one more digit, or, at 10, with none. One that would not fit in a word stays.
-fn with_digit(value: u64, digit: u64) -> u64
-    requires { digit ≤ 10 }
+// How many digits a text begins with. Its first byte is one.
+fn digits_at(text: &[u8]) -> usize
+    requires { 0 < length text.now }
+    ensures { (0 < result) × (result ≤ length text.now) }
 {
-    if digit == 10 {
-        return value;
-    }
-    if (18_446_744_073_709_551_615 - digit) / 10 < value {
-        return value;
-    }
-    value * 10 + digit
+    text[1..]
+        .iter()
+        .position(|b| !b.is_ascii_digit())
+        .map_or(text.len(), |others| others + 1)
 }
 
-// How many numbers have ended, where n had before a byte that is this digit or, at 10, none.
-fn ended(n: usize, inside: bool, digit: u64) -> usize
-    requires { n < 18446744073709551615 }
-    ensures { result ≤ n + 1 }
-{
-    if inside & (digit == 10) {
-        return n + 1;
-    }
-    n
+// The numbers in a text, in order: each run of digits is one.
+#[derive(Drop)]
+struct NumbersIn<'a> {
+    rest: &'a [u8],
 }
 
-// The numbers of a line that ends with a newline, into words that are 0; answers how many there are, at most as many as the words.
-pub fn numbers_in(line: &[u8], words: &mut [u64]) -> usize
-    ensures { result ≤ length words.old }
-{
-    let mut n: usize = 0;
-    let mut inside = false;
-    let mut i: usize = 0;
-    while i < line.len() {
-        if n == words.len() {
-            return n;
-        }
-        let d = digit(line[i]);
-        words[n] = with_digit(words[n], d);
-        n = ended(n, inside, d);
-        inside = d < 10;
-        i += 1;
+impl Iterator for NumbersIn<'_> {
+    type Item = u64;
+
+    ghost remaining = { λ numbers. at_most (length numbers.rest.now) };
+
+    fn next(&mut self) -> Option<u64> {
+        let first = self.rest.iter().position(u8::is_ascii_digit)?;
+        let from = &self.rest[first..];
+        let (digits, rest) = from.split_at(digits_at(from));
+        self.rest = rest;
+        Some(
+            digits
+                .iter()
+                .fold(0, |value, digit| with_digit(value, *digit)),
+        )
     }
-    n
 }
 
-// The numbers of a line, at most 256.
-pub fn numbers(line: &[u8], words: &mut [u64; 256]) -> usize
-    ensures { result ≤ 256 }
+// A line without the number that its end cuts off, which it has where no newline ends it.
+pub fn ended(line: &[u8]) -> &[u8]
+    ensures starts { StartsWith line.now result.now }
+    ensures ends { (i : ℕ) → i + 1 ≡ length result.now → is_ascii_digit (slice_index line.now i) ≡ false }
+    ensures cut { (i : ℕ) → length result.now ≤ i → i < length line.now → is_ascii_digit (slice_index line.now i) ≡ true }
 {
-    numbers_in(line, &mut words[..])
+    match line.iter().rposition(|b| !b.is_ascii_digit()) {
+        Some(last) => &line[..last + 1],
+        None => &[],
+    }
 }
 
-// Where the line that begins here ends: past its newline.
-pub fn line_end(text: &[u8], from: usize) -> usize
-    requires { from < length text.now }
-    ensures { (from < result) × (result ≤ length text.now) }
+// The numbers of a line, at most so many.
+pub fn numbers(alloc: Global, line: &[u8], most: usize) -> Result<Vec<u64>, AllocError>
+    ensures { IfOk result (λ ns. vec_len ns ≤ most) }
 {
-    let mut i = from;
-    while i < text.len() {
-        if text[i] == b'\n' {
-            return i + 1;
-        }
-        i += 1;
+    NumbersIn { rest: line }.take(most).collect(alloc)
+}
+
+// The first of some numbers; those that are missing are 0.
+pub fn first_of<const N: usize>(numbers: &[u64]) -> [u64; N]
+    ensures { (i : ℕ) → i < N → slice_index result i ≡ get_or numbers.now i 0 }
+{
+    let mut first = [0; N];
+    let n = numbers.len().min(N);
+    first[..n].copy_from_slice(&numbers[..n]);
+    first
+}
+
+#[cfg(test)]
+mod tests {
+    use super::*;
+    use std::test::Fail;
+
+    #[test]
+    fn reads_numbers(rt: HostRuntime) -> Result<(), Fail> {
+        // The third is one more than fits, and loses its last digit.
+        let line = b"m 12 0 18446744073709551616x7";
+        let read = numbers(rt.alloc(), line, 256)?;
+        assert_eq!(rt;
+            read.as_slice(),
+            [12, 0, 1_844_674_407_370_955_161, 7].as_slice()
+        );
+        let two = numbers(rt.alloc(), line, 2)?;
+        assert_eq!(rt; two.as_slice(), [12, 0].as_slice());
+        let whole = numbers(rt.alloc(), ended(line), 256)?;
+        assert_eq!(rt;
+            whole.as_slice(),
+            [12, 0, 1_844_674_407_370_955_161].as_slice()
+        );
+        assert_eq!(rt; first_of::<3>(&two).as_slice(), [12, 0, 0].as_slice());
+        Ok(())
     }
-    i
+
+    #[test]
+    fn writes_lines(rt: HostRuntime) -> Result<(), Fail> {
+        let mut out = Vec::new(rt.alloc());
+        say(&mut out, b"r")?;
+        number(&mut out, 0)?;
+        number(&mut out, u64::MAX)?;
+        line_ends(&mut out)?;
+        assert_eq!(rt; out.as_slice(), b"r 0 18446744073709551615\n".as_slice());
+        Ok(())
+    }
 }

@@ -12,20 +12,16 @@ fn row<W: Write>(out: &mut W, n: usize) -> io::Result<()>
 {
     let first = state_length(n, 0);
     write!(out, "{first}")?;
-    let mut ahead: usize = 1;
-    while ahead < 16 {
+    for ahead in 1..16 {
         number(out, state_length(n, ahead) as u64)?;
-        ahead += 1;
     }
     line_ends(out)
 }
 
 fn main(rt: HostRuntime) -> io::Result<()> {
     let mut out = BufWriter::new(rt.alloc(), io::writer(&rt))?;
-    let mut n: usize = 1;
-    while n <= 16 {
+    for n in 1..=16 {
         row(&mut out, n)?;
-        n += 1;
     }
     out.flush()
 }

@@ -15,23 +15,52 @@ ghost use Rattle.std.specs.Prelude.{◌≤◌, ◌<◌};
 ghost use Rattle.network.specs.Network.{Network};
 
 use decryption::{Outcome, ThresholdDecrypt};
-use lines::{line_end, line_ends, number, numbers, say};
+use lines::{ended, first_of, line_ends, number, numbers, say};
 use network::network_info::NetworkInfo;
+use std::alloc::Global;
+use std::fmt;
 use std::io::{self, BufWriter, Read, Write};
-use steps::reader::{Answer, Content};
+use steps::numbers::{ANSWER_NOT_NEXT, ANSWERS_MALFORMED, BROADCAST_MESSAGE, DECRYPTION};
+use steps::reader::{Answer, Content, Output};
 use steps::step::Step;
 
-fn line_begins<W: Write>(out: &mut W) -> io::Result<()> {
-    say(out, b"  step")
+// Of the input, and of a line.
+const MOST_BYTES: u64 = 65_536;
+
+const MOST_NUMBERS: usize = 256;
+
+// What a line asks for.
+#[derive(Clone, Copy, Debug, PartialEq, Eq)]
+enum Kind {
+    Text,
+    Parts,
+    Instance,
+    Share,
+}
+
+// The first byte of a line that asks for nothing.
+#[derive(Clone, Copy, Debug, PartialEq, Eq)]
+struct OtherLine(u8);
+
+impl TryFrom<u8> for Kind {
+    type Error = OtherLine;
+
+    fn try_from(first: u8) -> Result<Self, OtherLine> {
+        match first {
+            b'=' => Ok(Kind::Text),
+            b'p' => Ok(Kind::Parts),
+            b'i' => Ok(Kind::Instance),
+            b's' => Ok(Kind::Share),
+            _ => Err(OtherLine(first)),
+        }
+    }
 }
 
 // The words of a step table, a line.
-fn show<W: Write>(out: &mut W, words: &[u64; 20]) -> io::Result<()> {
-    line_begins(out)?;
-    let mut i: usize = 0;
-    while i < 20 {
-        number(out, words[i])?;
-        i += 1;
+fn show<W: Write>(out: &mut W, words: &[u64]) -> io::Result<()> {
+    write!(out, "  step")?;
+    for word in words {
+        number(out, *word)?;
     }
     line_ends(out)
 }
@@ -41,7 +70,7 @@ fn show<W: Write>(out: &mut W, words: &[u64; 20]) -> io::Result<()> {
 enum Told {
     Refused,
     No,
-    Output(Option<u64>),
+    Output(Output),
 }
 
 #[derive(Clone, Copy)]
@@ -50,35 +79,28 @@ struct Heard {
     step: Step,
 }
 
-fn show_told<W: Write>(out: &mut W, told: Told) -> io::Result<()> {
-    match told {
-        Told::Refused => say(out, b"  reply 8\n"),
-        Told::No => say(out, b"  a 0\n"),
-        Told::Output(output) => match output {
-            None => say(out, b"  no output\n"),
-            Some(b) => {
-                say(out, b"  output")?;
-                number(out, b)?;
-                say(out, b"\n")
-            }
-        },
+impl fmt::Display for Told {
+    fn fmt<W: fmt::Write>(&self, f: &mut fmt::Formatter<W>) -> fmt::Result {
+        match self {
+            Told::Refused => write!(f, "reply {ANSWER_NOT_NEXT}"),
+            Told::No => write!(f, "a 0"),
+            Told::Output(Output::Missing) => write!(f, "no output"),
+            Told::Output(Output::Value(b)) => write!(f, "output {b}"),
+        }
     }
 }
 
 // The index of a table's first answer.
 fn first(answers: &[u64]) -> usize {
-    if answers.len() == 0 {
-        return 0;
-    }
-    answers[0] as usize
+    answers.first().map_or(0, |first| *first as usize)
 }
 
 // Kinds 3 and 4 are a broadcast's, 5 to 7 an agreement's.
 fn content_of(kind: u64) -> Content {
-    if kind <= 4 {
-        return Content::Broadcast;
+    match kind {
+        0..=BROADCAST_MESSAGE => Content::Broadcast,
+        _ => Content::Agreement,
     }
-    Content::Agreement
 }
 
 // An answer of this kind about this node, with its parts.
@@ -108,16 +130,7 @@ fn hear(answers: &[u64], kind: u64, who: u64, step: Step, words: &mut [u64]) -> 
 
 // Writes a counted step's header and answers the step that writes its records.
 fn begin(counted: Step, words: &mut [u64], epoch: u64) -> Step {
-    let messages = counted.messages;
-    let faults = counted.faults;
-    let outputs = counted.outputs;
-    if 9 < messages.at {
-        return Step::counting();
-    }
-    if 9 < faults.at {
-        return Step::counting();
-    }
-    if 9 < outputs.at {
+    if 9 < counted.messages.at || 9 < counted.faults.at || 9 < counted.outputs.at {
         return Step::counting();
     }
     let step = counted.writing();
@@ -130,12 +143,12 @@ fn begin(counted: Step, words: &mut [u64], epoch: u64) -> Step {
 // An answer's parts as a step of epoch 3: first counted, then written. A refused one writes nothing, a failed one a header.
 fn parts<W: Write>(out: &mut W, answers: &[u64], kind: u64, who: u64) -> io::Result<()> {
     if !answers::table_ok(4, answers) {
-        return say(out, b"  reply 5\n");
+        return writeln!(out, "  reply {ANSWERS_MALFORMED}");
     }
     let mut none = [0u64; 1];
     let counted = hear(answers, kind, who, Step::counting(), &mut none[..0]);
     let told = counted.told;
-    show_told(out, told)?;
+    writeln!(out, "  {told}")?;
     let mut words = [9u64; 20];
     match told {
         Told::Refused => {}
@@ -151,14 +164,10 @@ fn parts<W: Write>(out: &mut W, answers: &[u64], kind: u64, who: u64) -> io::Res
 
 fn show_outcome<W: Write>(out: &mut W, outcome: Outcome) -> io::Result<()> {
     match outcome {
-        Outcome::Nothing => say(out, b"  nothing\n"),
-        Outcome::Plaintext(h) => {
-            say(out, b"  plaintext")?;
-            number(out, h)?;
-            say(out, b"\n")
-        }
-        Outcome::Refused => say(out, b"  reply 8\n"),
-        Outcome::Decryption => say(out, b"  failure 24\n"),
+        Outcome::Nothing => writeln!(out, "  nothing"),
+        Outcome::Plaintext(h) => writeln!(out, "  plaintext {h}"),
+        Outcome::Refused => writeln!(out, "  reply {ANSWER_NOT_NEXT}"),
+        Outcome::Decryption => writeln!(out, "  failure {DECRYPTION}"),
     }
 }
 
@@ -190,20 +199,21 @@ fn write_share(
     td.handle_message_from(net, 0, sender, handle, answers, &mut place, step, words);
 }
 
-// A share of a sender for proposer 0, at an observer of four nodes: the instance afterwards.
+// A share of a sender for proposer 0, at an observer of four nodes. The instance stays as that leaves it.
 fn share<W: Write>(
     out: &mut W,
-    td: ThresholdDecrypt,
+    td: &mut ThresholdDecrypt,
     sender: usize,
     handle: u64,
     answers: &[u64],
-) -> io::Result<ThresholdDecrypt>
+) -> io::Result<()>
     requires { sender < 4 }
 {
+    let before = *td;
     let net = network();
     let mut place = first(answers);
     let mut none = [0u64; 1];
-    let handled = td.handle_message_from(
+    let handled = before.handle_message_from(
         net,
         0,
         sender,
@@ -213,6 +223,7 @@ fn share<W: Write>(
         Step::counting(),
         &mut none[..0],
     );
+    *td = handled.td;
     let outcome = handled.outcome;
     show_outcome(out, outcome)?;
     let mut words = [9u64; 20];
@@ -221,90 +232,62 @@ fn share<W: Write>(
         Outcome::Decryption => Step::counting().header(&mut words, 0),
         Outcome::Nothing | Outcome::Plaintext(_) => {
             let count = handled.step;
-            write_share(td, sender, handle, answers, count, &mut words);
+            write_share(before, sender, handle, answers, count, &mut words);
         }
     }
-    show(out, &words)?;
-    Ok(handled.td)
+    show(out, &words)
 }
 
-// An instance of proposer 0 with a ciphertext, words[0], and shares by sender, the words after it. It has sent its own share.
-fn instance(words: &[u64; 256]) -> ThresholdDecrypt {
-    let mut shares = [0u64; 16];
-    let mut i: usize = 0;
-    while i < 16 {
-        shares[i] = words[i + 1];
-        i += 1;
-    }
+// An instance of proposer 0 with a ciphertext and shares by sender. It has sent its own share.
+fn instance(given: &[u64]) -> ThresholdDecrypt {
+    let (ciphertext, shares) = given.split_first().unwrap_or((&0, &[]));
     ThresholdDecrypt {
-        ciphertext: words[0],
-        shares,
+        ciphertext: *ciphertext,
+        shares: first_of(shares),
         had_input: true,
         terminated: false,
     }
 }
 
-// What a line with these numbers asks for: the instance after it.
-fn act<W: Write>(
+// One line of the input. Only an instance takes a number that the end of the input cuts off.
+fn line<W: Write>(
     out: &mut W,
-    what: u8,
-    words: &[u64; 256],
-    n: usize,
-    td: ThresholdDecrypt,
-) -> io::Result<ThresholdDecrypt>
-    requires { n ≤ 256 }
-{
-    if n < 2 {
-        return Ok(td);
-    }
-    let one = words[0];
-    let two = words[1];
-    let all = &words[..];
-    if what == b'p' {
-        parts(out, &all[2..n], one, two)?;
-    }
-    if what == b's' {
-        if one < 4 {
-            return share(out, td, one as usize, two, &all[2..n]);
+    alloc: Global,
+    line: &[u8],
+    td: &mut ThresholdDecrypt,
+) -> io::Result<()> {
+    let [first, _, text @ ..] = line else {
+        return Ok(());
+    };
+    let Ok(kind) = Kind::try_from(*first) else {
+        return Ok(());
+    };
+    match kind {
+        Kind::Text => say(out, text),
+        Kind::Instance => {
+            *td = instance(&numbers(alloc, line, MOST_NUMBERS)?);
+            Ok(())
         }
+        Kind::Parts => match numbers(alloc, ended(line), MOST_NUMBERS)?.as_slice() {
+            [kind, who, answers @ ..] => parts(out, answers, *kind, *who),
+            _ => Ok(()),
+        },
+        Kind::Share => match numbers(alloc, ended(line), MOST_NUMBERS)?.as_slice() {
+            [sender @ 0..4, handle, answers @ ..] => {
+                share(out, td, *sender as usize, *handle, answers)
+            }
+            _ => Ok(()),
+        },
     }
-    Ok(td)
-}
-
-// One line of the input: the instance after it.
-fn line<W: Write>(out: &mut W, text: &[u8], td: ThresholdDecrypt) -> io::Result<ThresholdDecrypt> {
-    if text.len() < 2 {
-        return Ok(td);
-    }
-    let what = text[0];
-    if what == b'=' {
-        say(out, &text[2..])?;
-        return Ok(td);
-    }
-    let mut words = [0u64; 256];
-    let n = numbers(text, &mut words);
-    if what == b'i' {
-        return Ok(instance(&words));
-    }
-    act(out, what, &words, n, td)
-}
-
-// The lines of the input, in order.
-fn lines<W: Write>(out: &mut W, text: &[u8]) -> io::Result<()> {
-    let mut td = ThresholdDecrypt::new();
-    let mut at: usize = 0;
-    while at < text.len() {
-        let end = line_end(text, at);
-        td = line(out, &text[at..end], td)?;
-        at = end;
-    }
-    Ok(())
 }
 
 fn main(rt: HostRuntime) -> io::Result<()> {
     let mut text = Vec::new(rt.alloc());
-    rt.reader().take(65_536).read_to_end(&mut text)?;
+    rt.reader().take(MOST_BYTES).read_to_end(&mut text)?;
     let mut out = BufWriter::new(rt.alloc(), io::writer(&rt))?;
-    lines(&mut out, &text)?;
+    let mut td = ThresholdDecrypt::new();
+    for read in text.split_inclusive(|b| *b == b'\n') {
+        line(&mut out, rt.alloc(), read, &mut td)?;
+    }
     out.flush()
 }

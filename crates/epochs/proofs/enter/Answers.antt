@@ -13,12 +13,4 @@ listed strategy n w b some words answer went_on =
 
 pub handle_from-requires : goal.handle_from-requires
 handle_from-requires c =
-    (c.requires.0, c.requires.1, listed _ _ _ _ c.requires.0.some c.requires.1 c.epoch_in_range.ensures c.if-not-epoch_in_range.false, tt)
-
-pub handle_from-requires-in-Subset : goal.handle_from-requires-in-Subset
-handle_from-requires-in-Subset c =
-    (c.requires.0, c.requires.1, listed _ _ _ _ c.requires.0.some c.requires.1 c.epoch_in_range.ensures c.if-not-epoch_in_range.false, c.requires.3)
-
-pub handle_from-requires-in-DecryptionShare : goal.handle_from-requires-in-DecryptionShare
-handle_from-requires-in-DecryptionShare c =
-    (c.requires.0, c.requires.1, listed _ _ _ _ c.requires.0.some c.requires.1 c.epoch_in_range.ensures c.if-not-epoch_in_range.false, (c.requires.2, c.requires.3))
+    (c.args.call.how.in_range.0, c.requires, listed _ _ _ _ c.args.call.how.in_range.0.some c.requires c.epoch_in_range.ensures c.if-not-epoch_in_range.false, c.input-input.ensures)
