@@ -14,15 +14,16 @@
 ghost use Rattle.std.specs.Prelude.{◌≤◌, ◌<◌};
 ghost use Rattle.network.specs.Network.{Network};
 
-use decryption::{Outcome, ThresholdDecrypt};
+use decryption::ThresholdDecrypt;
 use lines::{ended, first_of, line_ends, number, numbers, say};
 use network::network_info::NetworkInfo;
 use std::alloc::Global;
 use std::fmt;
 use std::io::{self, BufWriter, Read, Write};
-use steps::numbers::{ANSWER_NOT_NEXT, ANSWERS_MALFORMED, BROADCAST_MESSAGE, DECRYPTION};
-use steps::reader::{Answer, Content, Output};
-use steps::step::Step;
+use steps::kinds::{AnswerKind, Stop};
+use steps::numbers::{ANSWER_NOT_NEXT, ANSWERS_MALFORMED};
+use steps::reader::{Content, Reader};
+use steps::step::{Step, Writer};
 
 // Of the input, and of a line.
 const MOST_BYTES: u64 = 65_536;
@@ -65,18 +66,29 @@ fn show<W: Write>(out: &mut W, words: &[u64]) -> io::Result<()> {
     line_ends(out)
 }
 
+// The answer kinds, from 1 on.
+const KINDS: [AnswerKind; 13] = [
+    AnswerKind::InstancesBuilt,
+    AnswerKind::ProposalSerialised,
+    AnswerKind::BroadcastProposal,
+    AnswerKind::BroadcastMessage,
+    AnswerKind::AgreementMessage,
+    AnswerKind::ProposeTrue,
+    AnswerKind::ProposeFalse,
+    AnswerKind::CiphertextReads,
+    AnswerKind::CiphertextVerifies,
+    AnswerKind::ShareVerifies,
+    AnswerKind::OwnDecryptionShare,
+    AnswerKind::ContributionDecrypted,
+    AnswerKind::ContributionReads,
+];
+
 // What an answer about a node came to: refused, a = 0, or its last output if it had one.
 #[derive(Clone, Copy)]
 enum Told {
     Refused,
     No,
-    Output(Output),
-}
-
-#[derive(Clone, Copy)]
-struct Heard {
-    told: Told,
-    step: Step,
+    Output(Option<u64>),
 }
 
 impl fmt::Display for Told {
@@ -84,47 +96,35 @@ impl fmt::Display for Told {
         match self {
             Told::Refused => write!(f, "reply {ANSWER_NOT_NEXT}"),
             Told::No => write!(f, "a 0"),
-            Told::Output(Output::Missing) => write!(f, "no output"),
-            Told::Output(Output::Value(b)) => write!(f, "output {b}"),
+            Told::Output(None) => write!(f, "no output"),
+            Told::Output(Some(b)) => write!(f, "output {b}"),
         }
     }
 }
 
-// The index of a table's first answer.
-fn first(answers: &[u64]) -> usize {
-    answers.first().map_or(0, |first| *first as usize)
+// A reader at a table's first answer.
+fn reader(answers: &[u64]) -> Reader<'_> {
+    Reader::new(answers, answers.first().map_or(0, |first| *first as usize))
 }
 
 // Kinds 3 and 4 are a broadcast's, 5 to 7 an agreement's.
-fn content_of(kind: u64) -> Content {
+fn content_of(kind: AnswerKind) -> Content {
     match kind {
-        0..=BROADCAST_MESSAGE => Content::Broadcast,
+        AnswerKind::BroadcastProposal | AnswerKind::BroadcastMessage => Content::Broadcast,
         _ => Content::Agreement,
     }
 }
 
-// An answer of this kind about this node, with its parts.
-fn hear(answers: &[u64], kind: u64, who: u64, step: Step, words: &mut [u64]) -> Heard {
-    let mut place = first(answers);
-    match steps::reader::ask_about_from(answers, &mut place, kind, who) {
-        Answer::Got { a, b: _ } => {
-            if a == 0 {
-                let told = Told::No;
-                return Heard { told, step };
-            }
-            let content = content_of(kind);
-            let parts = steps::reader::read_parts_from(
-                answers, &mut place, content, who, step, words,
-            );
-            let output = parts.output;
-            let told = Told::Output(output);
-            let done = parts.step;
-            Heard { told, step: done }
-        }
-        Answer::Refused => {
-            let told = Told::Refused;
-            Heard { told, step }
-        }
+// An answer of this kind about this node, with its parts. No answer has a kind that there is not.
+fn hear(answers: &[u64], kind: u64, who: usize, writer: &mut Writer) -> Told {
+    let Some(kind) = KINDS.iter().find(|known| u64::from(**known) == kind) else {
+        return Told::Refused;
+    };
+    let mut reader = reader(answers);
+    match reader.ask_about(*kind, who) {
+        Err(_) => Told::Refused,
+        Ok((0, _)) => Told::No,
+        Ok(_) => Told::Output(reader.read_parts(content_of(*kind), who, writer)),
     }
 }
 
@@ -141,33 +141,38 @@ fn begin(counted: Step, words: &mut [u64], epoch: u64) -> Step {
 }
 
 // An answer's parts as a step of epoch 3: first counted, then written. A refused one writes nothing, a failed one a header.
-fn parts<W: Write>(out: &mut W, answers: &[u64], kind: u64, who: u64) -> io::Result<()> {
+fn parts<W: Write>(out: &mut W, answers: &[u64], kind: u64, who: usize) -> io::Result<()> {
     if !answers::table_ok(4, answers) {
         return writeln!(out, "  reply {ANSWERS_MALFORMED}");
     }
-    let mut none = [0u64; 1];
-    let counted = hear(answers, kind, who, Step::counting(), &mut none[..0]);
-    let told = counted.told;
-    writeln!(out, "  {told}")?;
     let mut words = [9u64; 20];
+    let mut counting = Writer {
+        step: Step::counting(),
+        words: &mut words[..0],
+    };
+    let told = hear(answers, kind, who, &mut counting);
+    let counted = counting.step;
+    writeln!(out, "  {told}")?;
     match told {
         Told::Refused => {}
         Told::No => Step::counting().header(&mut words, 3),
         Told::Output(_) => {
-            let count = counted.step;
-            let step = begin(count, &mut words, 3);
-            hear(answers, kind, who, step, &mut words);
+            let mut writer = Writer {
+                step: begin(counted, &mut words, 3),
+                words: &mut words,
+            };
+            hear(answers, kind, who, &mut writer);
         }
     }
     show(out, &words)
 }
 
-fn show_outcome<W: Write>(out: &mut W, outcome: Outcome) -> io::Result<()> {
-    match outcome {
-        Outcome::Nothing => writeln!(out, "  nothing"),
-        Outcome::Plaintext(h) => writeln!(out, "  plaintext {h}"),
-        Outcome::Refused => writeln!(out, "  reply {ANSWER_NOT_NEXT}"),
-        Outcome::Decryption => writeln!(out, "  failure {DECRYPTION}"),
+fn show_result<W: Write>(out: &mut W, handled: Result<Option<u64>, Stop>) -> io::Result<()> {
+    match handled {
+        Ok(None) => writeln!(out, "  nothing"),
+        Ok(Some(plaintext)) => writeln!(out, "  plaintext {plaintext}"),
+        Err(Stop::NotNext) => writeln!(out, "  reply {ANSWER_NOT_NEXT}"),
+        Err(Stop::Failed(failure)) => writeln!(out, "  failure {}", u64::from(failure)),
     }
 }
 
@@ -182,23 +187,6 @@ fn network() -> NetworkInfo
     }
 }
 
-// The second run of a share's handling, which writes what the first has counted.
-fn write_share(
-    td: ThresholdDecrypt,
-    sender: usize,
-    handle: u64,
-    answers: &[u64],
-    count: Step,
-    words: &mut [u64],
-)
-    requires { sender < 4 }
-{
-    let net = network();
-    let mut place = first(answers);
-    let step = begin(count, words, 0);
-    td.handle_message_from(net, 0, sender, handle, answers, &mut place, step, words);
-}
-
 // A share of a sender for proposer 0, at an observer of four nodes. The instance stays as that leaves it.
 fn share<W: Write>(
     out: &mut W,
@@ -209,30 +197,40 @@ fn share<W: Write>(
 ) -> io::Result<()>
     requires { sender < 4 }
 {
-    let before = *td;
+    let mut before = *td;
     let net = network();
-    let mut place = first(answers);
-    let mut none = [0u64; 1];
-    let handled = before.handle_message_from(
+    let mut words = [9u64; 20];
+    let mut counting = Writer {
+        step: Step::counting(),
+        words: &mut words[..0],
+    };
+    let handled = td.handle_message(
         net,
         0,
         sender,
         handle,
-        answers,
-        &mut place,
-        Step::counting(),
-        &mut none[..0],
+        &mut reader(answers),
+        &mut counting,
     );
-    *td = handled.td;
-    let outcome = handled.outcome;
-    show_outcome(out, outcome)?;
-    let mut words = [9u64; 20];
-    match outcome {
-        Outcome::Refused => {}
-        Outcome::Decryption => Step::counting().header(&mut words, 0),
-        Outcome::Nothing | Outcome::Plaintext(_) => {
-            let count = handled.step;
-            write_share(before, sender, handle, answers, count, &mut words);
+    let counted = counting.step;
+    show_result(out, handled)?;
+    match handled {
+        Err(Stop::NotNext) => {}
+        Err(Stop::Failed(_)) => Step::counting().header(&mut words, 0),
+        Ok(_) => {
+            let mut writer = Writer {
+                step: begin(counted, &mut words, 0),
+                words: &mut words,
+            };
+            let again = before.handle_message(
+                net,
+                0,
+                sender,
+                handle,
+                &mut reader(answers),
+                &mut writer,
+            );
+            let _ = again;
         }
     }
     show(out, &words)
@@ -269,7 +267,7 @@ fn line<W: Write>(
             Ok(())
         }
         Kind::Parts => match numbers(alloc, ended(line), MOST_NUMBERS)?.as_slice() {
-            [kind, who, answers @ ..] => parts(out, answers, *kind, *who),
+            [kind, who, answers @ ..] => parts(out, answers, *kind, *who as usize),
             _ => Ok(()),
         },
         Kind::Share => match numbers(alloc, ended(line), MOST_NUMBERS)?.as_slice() {
