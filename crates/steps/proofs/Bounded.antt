@@ -10,8 +10,8 @@ use lib.ListN.{length, get_or, length-append}
 use lib.Dec.{eqb, ltb}
 use borrow.Author.Tests.{leb-true, ltb-true, ltb-false}
 use Rattle.steps.specs.declared.reader.Content.{Content}
-use Rattle.steps.specs.declared.reader.Answer.{Answer}
-use Rattle.steps.specs.declared.reader.Answer.TheVariants.{Got, Refused}
+use Rattle.steps.specs.Answers.{Answer}
+use Rattle.steps.specs.Answers.{Got, Refused}
 use Rattle.steps.specs.Table.{shape_ok, table_ok}
 use Rattle.steps.specs.Answers.{Rec, Tape, tape, link, rec_at, on_record, walk, chain, tape_of, Asked, asked, ask_for, ask, ask_about}
 use Rattle.steps.specs.Steps.{Entry, message, fault}

@@ -11,9 +11,8 @@ use native.Mathlib.Omega.{arith}
 use lib.ListN.{length, get_or}
 use lib.Dec.{ltb}
 use borrow.Author.Tests.{ltb-true, ltb-false, lt-ltb, le-ltb}
-use Rattle.steps.specs.Answers.{Tape, Rec, link, rec_at, on_record, walk, chain, tape_at, head_of, asked, ask_for}
-use Rattle.steps.specs.declared.reader.Answer.TheVariants.{Got, Refused}
-use Rattle.steps.specs.declared.reader.Found.TheVariants.{Record, End}
+use Rattle.steps.specs.Answers.{Tape, Rec, link, rec_at, on_record, walk, chain, tape_at, asked, ask_for}
+use Rattle.steps.specs.Answers.{Got, Refused}
 
 and-false : (x : Bool) → x && false ≡ false
 and-false true = refl
@@ -96,53 +95,6 @@ chain_on t i e = go (on_bounds t i e) (length t) (omega arith)
 pub chain_off : (t : List ℕ) (i : ℕ) → on_record t i ≡ false → chain t i ≡ []
 unfolding chain
 chain_off t i e = walk_off (length t) t i e
-
--- what stands at a place
-pub head_off : (t : List ℕ) (i : ℕ) → on_record t i ≡ false → head_of (chain t i) ≡ End
-unfolding head_of
-head_off t i e = rw (chain_off t i e)
-
-pub head_on : (t : List ℕ) (i : ℕ) → on_record t i ≡ true → head_of (chain t i) ≡ Record (link t i) (get_or t (i * 4 + 1) 0) (get_or t (i * 4 + 2) 0) (get_or t (i * 4 + 3) 0)
-unfolding head_of rec_at
-head_on t i e = rw (chain_on t i e)
-
--- a record that was found at a place is the head of the chain there, and its next is where the rest is
-pub chain_found : (t : List ℕ) (i n k a b : ℕ) → head_of (chain t i) ≡ Record n k a b → chain t i ≡ record { next = n; kind = k; a = a; b = b } ∷ chain t n
-unfolding rec_at
-chain_found t i n k a b e = go (on_record t i) refl
-  where
-    go : (x : Bool) → on_record t i ≡ x → chain t i ≡ record { next = n; kind = k; a = a; b = b } ∷ chain t n
-    go true o = let h = head_on t i o in cc (chain_on t i o)
-    go false o =
-        let h = head_off t i o in
-        let z : ◌≡◌ {A = ℕ} 0 1 = cc in
-        absurd (omega arith)
-
-pub chain_shorter : (t : List ℕ) (i : ℕ) {n k a b : ℕ} → head_of (chain t i) ≡ Record n k a b → length (chain t n) < length (chain t i)
-chain_shorter t i {n} {k} {a} {b} e = omega (arith, ap length (chain_found t i n k a b e))
-
--- nothing found: the chain has ended
-pub chain_ended : (l : List Rec) → head_of l ≡ End → l ≡ []
-unfolding head_of
-chain_ended [] e = refl
-chain_ended (r ∷ rs) e = let z : ◌≡◌ {A = ℕ} 0 1 = cc in absurd (omega arith)
-
--- asking, by what was found
-module _ (want : Rec → Bool) (t : List ℕ) (i : ℕ) where
-  pub asked_end : head_of (chain t i) ≡ End → asked Refused (tape_at t i) ≡ ask_for want (tape_at t i) (chain t i)
-  unfolding ask_for
-  asked_end e = rw (chain_ended (chain t i) e)
-
-  pub asked_got : (n k a b : ℕ) → head_of (chain t i) ≡ Record n k a b → want (record { next = n; kind = k; a = a; b = b }) ≡ true → asked (Got a b) (tape_at t n) ≡ ask_for want (tape_at t i) (chain t i)
-  unfolding ask_for
-  asked_got n k a b e w = rw (chain_found t i n k a b e, w, ask_for)
-
-  passed_by : (p : Tape) (r : Rec) (rs : List Rec) → want r ≡ false → ask_for want p (r ∷ rs) ≡ asked Refused p
-  unfolding ask_for
-  passed_by p r rs w = rw w
-
-  pub asked_other : (n k a b : ℕ) → head_of (chain t i) ≡ Record n k a b → want (record { next = n; kind = k; a = a; b = b }) ≡ false → asked Refused (tape_at t i) ≡ ask_for want (tape_at t i) (chain t i)
-  asked_other n k a b e w = sym (ap (ask_for want (tape_at t i)) (chain_found t i n k a b e) ∙ passed_by (tape_at t i) _ _ w)
 
 -- entries in two parts
 pub put_all_append : (o : Out) (l m : List Entry) → put_all o (l ++ m) ≡ put_all (put_all o l) m

@@ -2,8 +2,8 @@
 use Prim.Native.Nat.{ℕ}
 use mathlib.Core.Path.{◌≡◌}
 use mathlib.Core.Bool.{Bool, true}
-use Rattle.steps.specs.declared.reader.Answer.{Answer}
-use Rattle.steps.specs.declared.reader.Answer.TheVariants.{Got, Refused}
+use Rattle.steps.specs.Answers.{Answer}
+use Rattle.steps.specs.Answers.{Got, Refused}
 use Rattle.steps.specs.Answers.{Tape, Asked, ask, ask_about}
 use Rattle.steps.specs.Runs.{Verdict, going, refused, failed, Run, onward_as, onward, heard_as, heard}
 use Rattle.steps.proofs.Logic.{Terms, Permits, Logic, Stateless}

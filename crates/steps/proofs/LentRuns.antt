@@ -7,8 +7,8 @@ use mathlib.Core.Bool.{Bool, true, false, true≢false}
 use Rattle.std.specs.Prelude.{Result, Ok, Err}
 use Rattle.steps.specs.declared.kinds.Stop.{Stop}
 use Rattle.steps.specs.declared.kinds.Stop.TheVariants.{NotNext, Failed}
-use Rattle.steps.specs.declared.reader.Answer.{Answer}
-use Rattle.steps.specs.declared.reader.Answer.TheVariants.{Got, Refused}
+use Rattle.steps.specs.Answers.{Answer}
+use Rattle.steps.specs.Answers.{Got, Refused}
 use Rattle.steps.specs.declared.step.Writer.{Writer}
 use Rattle.steps.specs.Verdicts.{Verdict, going, refused, failed}
 use Rattle.steps.specs.Kinds.{verdict_of as verdict_in, failure_number}
@@ -58,7 +58,6 @@ module _ {S A : Type 0} (q : Asked) (s : S) (k : ℕ → ℕ → Tape → Run S 
       go Refused n (Failed g) e = absurd (true≢false (ap (λ (d : Told). fails d.verdict) e ∙ ap (λ y. fails (verdict_of y)) n))
       go (Got a b) n NotNext e = absurd (true≢false (sym (ap (λ (d : Told). goes_on d.verdict) e ∙ ap (λ y. goes_on (verdict_of y)) n)))
       go (Got a b) n (Failed g) e = absurd (true≢false (sym (ap (λ (d : Told). goes_on d.verdict) e ∙ ap (λ y. goes_on (verdict_of y)) n)))
-
 
 -- after an answer the run goes on with its words a and b; without one it ends
 module _ {S A : Type 0} (q : Asked) (s : S) (k : ℕ → ℕ → Tape → Run S A) (p : Tape) where

@@ -9,8 +9,8 @@ use lib.ListN.{length, get_or, set, replicate, length-set, length-replicate}
 use lib.Seq.{get_or-set_same, get_or-set_other, set_out}
 use lib.Dec.{eqb, leb, ltb}
 use borrow.Author.Tests.{eqb-true, eqb-false, ne_eqb, leb-true, ltb-true, ltb-false}
-use Rattle.steps.specs.declared.reader.Answer.{Answer}
-use Rattle.steps.specs.declared.reader.Answer.TheVariants.{Got, Refused}
+use Rattle.steps.specs.Answers.{Answer}
+use Rattle.steps.specs.Answers.{Got, Refused}
 use Rattle.steps.specs.declared.reader.Content.{Content}
 use Rattle.steps.specs.Table.{within, handle, record_ok, word, may_follow, chain_ok, shape_ok, table_ok}
 use Rattle.steps.specs.Answers.{Rec, Tape, tape, link, rec_at, chain, tape_of, Asked, asked, ask_for, ask, ask_about}

@@ -7,7 +7,7 @@ use Rattle.std.specs.Prelude.{Option}
 use lib.Dec.{eqb}
 use borrow.Author.Tests.{eqb-true}
 use Rattle.steps.specs.declared.reader.Content.{Content}
-use Rattle.steps.specs.declared.reader.Answer.TheVariants.{Got, Refused}
+use Rattle.steps.specs.Answers.{Got, Refused}
 use Rattle.steps.specs.Answers.{Rec, Tape, tape, Asked, asked as answered, ask_for, ask, ask_about}
 use Rattle.steps.specs.Table.{context_after}
 use Rattle.steps.specs.Parts.{is_part, last_output, parts_from}

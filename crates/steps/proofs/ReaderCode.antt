@@ -12,15 +12,16 @@ use Rattle.steps.specs.declared.kinds.Stop.TheVariants.{NotNext, Failed}
 use Rattle.steps.specs.Answers.{Tape, Rec, tape, link, rec_at, on_record, chain, first_record, Asked, is_end, ask_for, verdict_of}
 use Rattle.steps.specs.Verdicts.{Verdict, going, refused, failed}
 use Rattle.steps.specs.Kinds.{verdict_of as verdict_in, failure_number}
-use Rattle.steps.specs.declared.reader.Answer.{Answer}
-use Rattle.steps.specs.declared.reader.Answer.TheVariants.{Got, Refused}
+use Rattle.steps.specs.Answers.{Answer}
+use Rattle.steps.specs.Answers.{Got, Refused}
 use Rattle.steps.specs.Told.{Told, told, taken, heard_in}
 use Rattle.steps.specs.declared.reader.Content.{Content}
 use Rattle.steps.specs.declared.step.Writer.{Writer}
 use Rattle.steps.specs.Steps.{Out, put_all}
 use Rattle.steps.specs.Runs.{Run, ends, onward, heard, heard_as, leaves}
 use Rattle.steps.specs.Written.{out_of, left}
-use Rattle.steps.specs.Parts.{is_part, part_entries, last_output, parts_from, told_by}
+use Rattle.std.specs.Option.{option_or}
+use Rattle.steps.specs.Parts.{is_part, part_entries, output_of, last_of, last_output, parts_from, told_by}
 use Rattle.steps.proofs.Parts.{after_entries, parts_on, parts_off}
 use Rattle.steps.proofs.RunLaws.{leaves_before, onward_go, onward_refused, onward_failed}
 use Rattle.steps.proofs.ChainLaws.{chain_on, chain_off}
@@ -80,6 +81,15 @@ ended [] true e = refl
 ended [] false e = e
 ended (r ∷ rs) true e = absurd (true≢false e)
 ended (r ∷ rs) false e = refl
+
+-- of several outputs the last counts, as `or` has it
+pub last_counts : (output part x : Option ℕ) (kind b : ℕ) → x ≡ option_or part output → part ≡ output_of kind b → x ≡ last_output output kind b
+unfolding last_output last_of
+last_counts output part x kind b e h = rw (e, ← h) (go part)
+  where
+    go : (part : Option ℕ) → option_or part output ≡ last_of output part
+    go None = refl
+    go (Some v) = refl
 
 -- the parts that a reader is told from where it stands
 abbrev pub parts_of : Content → ℕ → Option ℕ → Tape → Run (Unit {0}) (Option ℕ)

@@ -2,8 +2,8 @@
 use Prim.Native.Nat.{ℕ}
 use mathlib.Core.Path.{◌≡◌, refl, sym, ap, ◌∙◌}
 use mathlib.Core.List.{List}
-use Rattle.steps.specs.declared.reader.Answer.{Answer}
-use Rattle.steps.specs.declared.reader.Answer.TheVariants.{Got, Refused}
+use Rattle.steps.specs.Answers.{Answer}
+use Rattle.steps.specs.Answers.{Got, Refused}
 use Rattle.steps.specs.Answers.{Tape, Asked, asked}
 use Rattle.steps.specs.Steps.{Entry, Out, put_all}
 use Rattle.steps.specs.Runs.{Verdict, going, refused, failed, number_of, Run, Left, ends, before, onward_as, onward, heard_as, heard, leaves}

@@ -1,7 +1,7 @@
 -- WHAT EVERY WRITE KEEPS of a state, a run keeps, whatever its verdict. Assumes nothing.
 use Prim.Native.Nat.{ℕ}
-use Rattle.steps.specs.declared.reader.Answer.{Answer}
-use Rattle.steps.specs.declared.reader.Answer.TheVariants.{Got, Refused}
+use Rattle.steps.specs.Answers.{Answer}
+use Rattle.steps.specs.Answers.{Got, Refused}
 use Rattle.steps.specs.Answers.{Tape, Asked, ask, ask_about}
 use Rattle.steps.specs.Runs.{Verdict, going, refused, failed, Run, onward_as, onward, heard_as, heard}
 use Rattle.steps.proofs.Logic.{about, anything, Logic}

@@ -1,11 +1,6 @@
 -- The answer table as the chain of its records, and what a reader of it is told.
 use Rattle.std.specs.Prelude.{ℕ, zero, suc, ◌+◌, ◌-◌, ◌*◌, ◌/◌, List, [], ◌∷◌, Bool, true, false, cond, ◌&&◌, length, get_or, ltb, eqb, Option, Some, None}
-use Rattle.steps.specs.declared.reader.Cursor.{Cursor}
-use Rattle.steps.specs.declared.reader.Answer.{Answer}
-use Rattle.steps.specs.declared.reader.Answer.TheVariants.{Got, Refused}
-use Rattle.steps.specs.declared.reader.Record.{Record as ReadRecord}
-use Rattle.steps.specs.declared.reader.Found.{Found}
-use Rattle.steps.specs.declared.reader.Found.TheVariants.{Record, End}
+use Rattle.steps.specs.declared.reader.Record.{Record}
 use Rattle.steps.specs.Verdicts.{Verdict, going, refused, number_of}
 
 -- a record of the chain: the place after it, its kind, its two words
@@ -54,17 +49,8 @@ tape_of t = tape_at t (get_or t 0 0)
 abbrev pub last_index : List ℕ → ℕ
 last_index t = length t / 4 - 1
 
--- the cursor at a place of the table
-abbrev pub cursor_at : List ℕ → ℕ → Cursor
-cursor_at t i = record { place = i; last = last_index t }
-
--- the first record of a chain, with its four words; document 01 has no number for it
-unfoldable pub head_of : List Rec → Found
-head_of [] = End
-head_of (r ∷ rs) = Record r.next r.kind r.a r.b
-
 -- the first record of a chain
-unfoldable pub first_record : List Rec → Option ReadRecord
+unfoldable pub first_record : List Rec → Option Record
 first_record [] = None
 first_record (r ∷ rs) = Some (record { next = r.next; kind = r.kind; a = r.a; b = r.b })
 
@@ -72,6 +58,11 @@ first_record (r ∷ rs) = Some (record { next = r.next; kind = r.kind; a = r.a; 
 unfoldable pub is_end : List Rec → Bool
 is_end [] = true
 is_end (r ∷ rs) = false
+
+-- an answer from outside: the words a and b of the record that was wanted, or none, which is reply 8
+pub data Answer : Type 0 where
+  Got : ℕ → ℕ → Answer
+  Refused : Answer
 
 -- what an answer comes to: the run goes on with its words a and b, or is refused
 abbrev pub verdict_of : Answer → Verdict (ℕ × ℕ)

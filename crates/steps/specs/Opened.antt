@@ -12,7 +12,7 @@ use Rattle.steps.specs.Batches
 
 unfoldable pub opened : Unit {0}
 unfolding Table.record_ok Table.context_after Table.link_ok Table.may_follow Table.chain_ok Table.shape_ok Table.table_ok
-    Answers.link Answers.rec_at Answers.on_record Answers.walk Answers.chain Answers.head_of Answers.ask_for Answers.ask
+    Answers.link Answers.rec_at Answers.on_record Answers.walk Answers.chain Answers.first_record Answers.ask_for Answers.ask
     Answers.ask_about
     Steps.messages Steps.faults Steps.outputs Steps.link_after Steps.chain_words Steps.first_at Steps.laid_out Steps.next_of
     Steps.advance Steps.put_at Steps.put_entry Steps.put_all Steps.first_of Steps.put_header

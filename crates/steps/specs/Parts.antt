@@ -5,10 +5,9 @@ use Rattle.steps.specs.declared.reader.Content.{Content}
 use Rattle.steps.specs.declared.reader.Content.TheVariants.{Broadcast, Agreement}
 use Rattle.std.specs.Prelude.{Option}
 use Rattle.std.specs.Prelude.{None, Some}
-use Rattle.steps.specs.declared.reader.Parts.{Parts}
 use Rattle.steps.specs.Answers.{Rec, Tape, tape}
-use Rattle.steps.specs.Steps.{Entry, message, fault, out}
-use Rattle.steps.specs.Runs.{going, Run, Left}
+use Rattle.steps.specs.Steps.{Entry, message, fault}
+use Rattle.steps.specs.Runs.{going, Run}
 
 unfoldable pub is_part : ℕ → Bool
 is_part kind = leb message_part kind && leb kind output_part
@@ -63,7 +62,3 @@ told_by s told = record { state = s; verdict = going told.output; tape = told.ta
 -- reading the parts of an answer, in any layer
 abbrev pub read_parts : {S : Type 0} → Content → ℕ → S → Tape → Run S (Option ℕ)
 read_parts content proposer s p = told_by s (parts_from content proposer None p.place p.rest)
-
--- what the reader leaves; it has no state of its own
-abbrev pub left : Parts → Tape → List ℕ → Left (Unit {0}) (Option ℕ)
-left r p w = record { state = tt; verdict = going r.output; tape = p; out = out r.step w }

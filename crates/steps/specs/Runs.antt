@@ -2,8 +2,8 @@
 use Rattle.std.specs.Prelude.{ℕ, List, [], ◌++◌}
 pub use Rattle.steps.specs.Verdicts.{Verdict, going, refused, failed}
 unfoldable pub use Rattle.steps.specs.Verdicts.{number_of}
-use Rattle.steps.specs.declared.reader.Answer.{Answer}
-use Rattle.steps.specs.declared.reader.Answer.TheVariants.{Got, Refused}
+use Rattle.steps.specs.Answers.{Answer}
+use Rattle.steps.specs.Answers.{Got, Refused}
 use Rattle.steps.specs.Answers.{Tape, Asked}
 use Rattle.steps.specs.Steps.{Entry, Out, put_all}
 

@@ -11,13 +11,13 @@ use crate::kinds::{FaultKind, MessageKind, OutputKind};
 use crate::numbers::COUNT_LIMIT;
 
 // The records of one list: the index of the one that is written next, and the index past the last.
-#[derive(Clone, Copy)]
+#[derive(Clone, Copy, Debug, PartialEq, Eq)]
 pub struct Chain {
     pub at: usize,
     pub end: usize,
 }
 
-#[derive(Clone, Copy)]
+#[derive(Clone, Copy, Debug, PartialEq, Eq)]
 pub struct Step {
     pub messages: Chain,
     pub faults: Chain,
@@ -51,24 +51,23 @@ impl Chain {
     }
 
     // Writes the next record of the chain, where the table has it.
-    fn put(self, words: &mut [u64], kind: u64, a: u64, b: u64) -> Chain
-        ensures { chained result words.new
-            ≡ chained (advance self) (put_at words.old self kind a b) }
+    fn put(&mut self, words: &mut [u64], kind: u64, a: u64, b: u64)
+        ensures { chained self.new words.new
+            ≡ chained (advance self.old) (put_at words.old self.old kind a b) }
     {
         let at = self.at;
-        let end = self.end;
         if COUNT_LIMIT <= at {
-            return self;
+            return;
         }
+        self.at = at + 1;
         if words.len() / 4 <= at {
-            return Chain { at: at + 1, end };
+            return;
         }
         let word = at * 4;
-        words[word] = next_of(at + 1, end);
+        words[word] = next_of(at + 1, self.end);
         words[word + 1] = kind;
         words[word + 2] = a;
         words[word + 3] = b;
-        Chain { at: at + 1, end }
     }
 }
 
@@ -114,51 +113,6 @@ impl Step {
         1 + self.messages.at + self.faults.at + self.outputs.at
     }
 
-    pub fn message(self, words: &mut [u64], kind: u64, a: u64, b: u64) -> Step
-        ensures { out result words.new
-            ≡ put_entry (out self words.old) (message kind a b) }
-    {
-        let chain = self.messages;
-        let faults = self.faults;
-        let outputs = self.outputs;
-        let messages = chain.put(words, kind, a, b);
-        Step {
-            messages,
-            faults,
-            outputs,
-        }
-    }
-
-    pub fn fault(self, words: &mut [u64], kind: u64, a: u64, b: u64) -> Step
-        ensures { out result words.new
-            ≡ put_entry (out self words.old) (fault kind a b) }
-    {
-        let chain = self.faults;
-        let messages = self.messages;
-        let outputs = self.outputs;
-        let faults = chain.put(words, kind, a, b);
-        Step {
-            messages,
-            faults,
-            outputs,
-        }
-    }
-
-    pub fn output(self, words: &mut [u64], kind: u64, a: u64, b: u64) -> Step
-        ensures { out result words.new
-            ≡ put_entry (out self words.old) (output kind a b) }
-    {
-        let chain = self.outputs;
-        let messages = self.messages;
-        let faults = self.faults;
-        let outputs = chain.put(words, kind, a, b);
-        Step {
-            messages,
-            faults,
-            outputs,
-        }
-    }
-
     // Writes the header of a step that begins as this one does. A failed call's header is that of `counting`, which has no entries.
     pub fn header(self, words: &mut [u64], epoch: u64)
         requires { 4 ≤ length words.old }
@@ -179,23 +133,20 @@ impl Writer<'_> {
         ensures step { out_of self.new ≡ put_entry (out_of self.old) (message (message_number kind) a b) }
         ensures table { same_table self.old self.new }
     {
-        let messages = self.step.messages;
-        self.step.messages = messages.put(self.words, u64::from(kind), a, b);
+        self.step.messages.put(self.words, u64::from(kind), a, b);
     }
 
     pub fn fault(&mut self, kind: FaultKind, a: u64, b: u64)
         ensures step { out_of self.new ≡ put_entry (out_of self.old) (fault (fault_number kind) a b) }
         ensures table { same_table self.old self.new }
     {
-        let faults = self.step.faults;
-        self.step.faults = faults.put(self.words, u64::from(kind), a, b);
+        self.step.faults.put(self.words, u64::from(kind), a, b);
     }
 
     pub fn output(&mut self, kind: OutputKind, a: u64, b: u64)
         ensures step { out_of self.new ≡ put_entry (out_of self.old) (output (output_number kind) a b) }
         ensures table { same_table self.old self.new }
     {
-        let outputs = self.step.outputs;
-        self.step.outputs = outputs.put(self.words, u64::from(kind), a, b);
+        self.step.outputs.put(self.words, u64::from(kind), a, b);
     }
 }
