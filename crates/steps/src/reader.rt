@@ -153,6 +153,13 @@ impl<'a> Reader<'a> {
         }
     }
 
+    // The index of the record to be read next, 0 at the end.
+    pub fn place(&self) -> usize
+        ensures { result ≡ self.now.place }
+    {
+        self.cursor.place
+    }
+
     // The next record, which is not taken.
     fn peek(&self) -> Option<Record>
         ensures { result ≡ first_record self.now.rest }
