@@ -8,7 +8,7 @@ use lib.ListN.{get_or, set}
 use lib.Dec.{leb, eqb}
 use borrow.Author.Tests.{eqb-true, eqb-false, leb-true, leb-false, not-true, ne_eqb}
 use Rattle.network.specs.declared.network_info.NetworkInfo.{NetworkInfo}
-use Rattle.steps.specs.declared.reader.Answer.TheVariants.{Got}
+use Rattle.steps.specs.Answers.{Got}
 use Rattle.steps.specs.Answers.{Tape, asked, ask_about}
 use Rattle.steps.specs.Steps.{fault}
 use Rattle.steps.specs.Runs.{going, failed, Run, ends, before, onward}

@@ -14,8 +14,8 @@ use Rattle.steps.specs.declared.step.Writer.{Writer}
 use Rattle.steps.specs.Kinds.{failure_number}
 use Rattle.steps.specs.Written.{out_of, left}
 use Rattle.steps.proofs.RunsInParts.{leaves_inside}
-use Rattle.steps.specs.declared.reader.Answer.{Answer}
-use Rattle.steps.specs.declared.reader.Answer.TheVariants.{Got, Refused as NoAnswer}
+use Rattle.steps.specs.Answers.{Answer}
+use Rattle.steps.specs.Answers.{Got, Refused as NoAnswer}
 use Rattle.steps.specs.Answers.{Tape, asked, ask}
 use Rattle.steps.specs.Steps.{Entry, Out, put_all}
 use Rattle.steps.specs.Runs.{Verdict, going, refused, failed, Run, ends, onward_as, onward, heard_as, heard, Left, leaves}

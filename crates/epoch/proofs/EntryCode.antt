@@ -13,8 +13,8 @@ use Rattle.steps.specs.Written.{out_of, left, left_reading}
 use lib.ListN.{get_or}
 use borrow.Author.Tests.{eq-eqb, ne_eqb}
 use Rattle.network.specs.declared.network_info.NetworkInfo.{NetworkInfo}
-use Rattle.steps.specs.declared.reader.Answer.{Answer}
-use Rattle.steps.specs.declared.reader.Answer.TheVariants.{Got, Refused as NoAnswer}
+use Rattle.steps.specs.Answers.{Answer}
+use Rattle.steps.specs.Answers.{Got, Refused as NoAnswer}
 use Rattle.steps.specs.Answers.{Tape, asked, ask_about}
 use Rattle.steps.specs.Steps.{Entry, Out, put_entry, put_all, fault}
 use Rattle.steps.specs.Runs.{Verdict, going, refused, failed, Run, ends, onward_as, onward, Left, leaves}

@@ -21,20 +21,22 @@ ghost use Rattle.epoch.specs.Outcomes.{Comes};
 ghost use Rattle.epochwords.specs.Shape.{EpochWords};
 
 use epoch::MessageContent;
-use epoch::epoch_state::{Input, Outcome, SubsetInput, handle_from};
+use epoch::epoch_state::{Input, SubsetInput, handle, new_epoch};
 use epochwords::SubsetHandlingStrategy;
-use epochwords::batch::{Handed, is_ready, output_batch_from};
+use epochwords::batch::{is_ready, output_batch};
+use epochwords::range::epoch_in_range;
 use epochwords::words::{STATUS_AT, STATUS_VACANT};
 use lines::{ended, first_of, line_ends, number, numbers};
 use network::network_info::NetworkInfo;
 use std::alloc::Global;
 use std::io::{self, BufWriter, Read, Write};
+use steps::kinds::{AnswerKind, Failure, Stop};
 use steps::numbers::{
-    AGREEMENT_CONTENT, ANSWER_NOT_NEXT, ANSWERS_UNREAD, BROADCAST_CONTENT, CREATE_SUBSET,
-    INSTANCES_BUILT, NOT_A_STATE, STEP_TABLE_TOO_SHORT, SUCCESS,
+    AGREEMENT_CONTENT, ANSWER_NOT_NEXT, ANSWERS_UNREAD, BROADCAST_CONTENT, NOT_A_STATE,
+    STEP_TABLE_TOO_SHORT, SUCCESS,
 };
-use steps::reader::{Answer, Content};
-use steps::step::Step;
+use steps::reader::{Content, Reader};
+use steps::step::{Step, Writer};
 use subset::words::{RECORD_FIELDS, RECORDS_AT};
 
 // Of the input, and of a line.
@@ -127,12 +129,30 @@ struct Before {
     words: [u64; 128],
 }
 
-// What a run comes to: its reply, and whether the batch went out.
-#[derive(Clone, Copy)]
-struct Ran {
-    reply: u64,
-    batch: bool,
-    step: Step,
+// Why a call ends before it is done.
+#[derive(Clone, Copy, Debug, PartialEq, Eq)]
+enum End {
+    Stopped(Stop),
+    NotAState,
+    Unread,
+}
+
+impl From<Stop> for End {
+    fn from(stop: Stop) -> End {
+        End::Stopped(stop)
+    }
+}
+
+impl From<End> for u64 {
+    // The reply.
+    fn from(end: End) -> u64 {
+        match end {
+            End::Stopped(Stop::NotNext) => ANSWER_NOT_NEXT,
+            End::Stopped(Stop::Failed(failure)) => u64::from(failure),
+            End::NotAState => NOT_A_STATE,
+            End::Unread => ANSWERS_UNREAD,
+        }
+    }
 }
 
 fn strategy_of(number: u64) -> SubsetHandlingStrategy {
@@ -197,140 +217,77 @@ impl Call {
     }
 }
 
-// Builds the epoch where it is vacant: 0, or the reply of a call that ends with this.
-fn build(epoch: &mut [u64], n: usize, answers: &[u64], place: &mut usize) -> u64
+// Builds the epoch where it is vacant.
+fn build(epoch: &mut [u64], n: usize, reader: &mut Reader) -> Result<(), Stop>
     requires { EpochWords n epoch.old }
 {
     if epoch[STATUS_AT] != STATUS_VACANT {
-        return SUCCESS;
+        return Ok(());
     }
-    match steps::reader::ask_from(answers, place, INSTANCES_BUILT) {
-        Answer::Got { a, b: _ } => {
-            if a == 0 {
-                return CREATE_SUBSET;
-            }
-            epoch::epoch_state::new_epoch(epoch, n);
-            SUCCESS
-        }
-        Answer::Refused => ANSWER_NOT_NEXT,
+    let (built, _) = reader.ask(AnswerKind::InstancesBuilt)?;
+    if built == 0 {
+        return Err(Stop::Failed(Failure::CreateSubset));
     }
+    new_epoch(epoch, n);
+    Ok(())
 }
 
 // The epoch's propose or message.
 fn enter(
     epoch: &mut [u64],
     call: Call,
-    answers: &[u64],
-    place: &mut usize,
-    step: Step,
-    words: &mut [u64],
-) -> epoch::epoch_state::Ran
+    reader: &mut Reader,
+    writer: &mut Writer,
+) -> Result<(), End>
     requires { EpochWords call.how.net.num_nodes epoch.old }
 {
     let how = call.how;
     let net = how.net;
     let strategy = how.strategy;
     let secret = how.encrypted;
-    if !epochwords::range::epoch_in_range(epoch, strategy, net.num_nodes) {
-        let outcome = Outcome::Failed(NOT_A_STATE);
-        return epoch::epoch_state::Ran { outcome, step };
+    if !epoch_in_range(epoch, strategy, net.num_nodes) {
+        return Err(End::NotAState);
     }
-    let input = call.input();
-    handle_from(
-        epoch, net, strategy, secret, input, answers, place, step, words,
-    )
+    handle(epoch, net, strategy, secret, call.input(), reader, writer)?;
+    Ok(())
 }
 
-// The batch of the epoch, where it may go out.
+// The batch of the epoch, where it may go out: whether it did.
 fn hand_out(
     epoch: &[u64],
     n: usize,
     call: Call,
-    answers: &[u64],
-    place: &mut usize,
-    step: Step,
-    words: &mut [u64],
-) -> Ran
+    reader: &mut Reader,
+    writer: &mut Writer,
+) -> Result<bool, Stop>
     requires { EpochWords n epoch.now }
 {
     let size = RECORD_FIELDS + n;
-    let ready = is_ready(epoch, size, n);
-    if !call.current || !ready {
-        return Ran {
-            reply: SUCCESS,
-            batch: false,
-            step,
-        };
+    if !call.current || !is_ready(epoch, size, n) {
+        return Ok(false);
     }
-    let number = call.epoch;
-    let handed = output_batch_from(epoch, size, n, number, answers, place, step, words);
-    let outcome = handed.outcome;
-    let done = handed.step;
-    match outcome {
-        Handed::Done => Ran {
-            reply: SUCCESS,
-            batch: true,
-            step: done,
-        },
-        Handed::Refused => Ran {
-            reply: ANSWER_NOT_NEXT,
-            batch: false,
-            step: done,
-        },
-    }
+    output_batch(epoch, size, n, call.epoch, reader, writer)?;
+    Ok(true)
 }
 
-// The call, from its first answer on.
+// The call, from its first answer on: whether the batch went out.
 fn run(
     epoch: &mut [u64],
     call: Call,
-    answers: &[u64],
-    place: &mut usize,
-    step: Step,
-    words: &mut [u64],
-) -> Ran
+    reader: &mut Reader,
+    writer: &mut Writer,
+) -> Result<bool, End>
     requires { EpochWords call.how.net.num_nodes epoch.old }
 {
-    let how = call.how;
-    let net = how.net;
-    let n = net.num_nodes;
-    let built = build(epoch, n, answers, place);
-    if built != SUCCESS {
-        return Ran {
-            reply: built,
-            batch: false,
-            step,
-        };
-    }
-    let entered = enter(epoch, call, answers, place, step, words);
-    let outcome = entered.outcome;
-    let done = entered.step;
-    match outcome {
-        Outcome::Done => hand_out(epoch, n, call, answers, place, done, words),
-        Outcome::Refused => Ran {
-            reply: ANSWER_NOT_NEXT,
-            batch: false,
-            step: done,
-        },
-        Outcome::Failed(error) => Ran {
-            reply: error,
-            batch: false,
-            step: done,
-        },
-    }
+    let n = call.how.net.num_nodes;
+    build(epoch, n, reader)?;
+    enter(epoch, call, reader, writer)?;
+    Ok(hand_out(epoch, n, call, reader, writer)?)
 }
 
 // The place of a table's first answer.
 fn first(answers: &[u64]) -> usize {
     answers.first().map_or(0, |first| *first as usize)
-}
-
-// The reply of a run that has stopped at this place: each answer must be read.
-fn reply_at(reply: u64, place: usize) -> u64 {
-    if reply != ANSWER_NOT_NEXT && place != 0 {
-        return ANSWERS_UNREAD;
-    }
-    reply
 }
 
 // The words that an epoch of n nodes takes.
@@ -341,20 +298,20 @@ fn epoch_length(n: usize) -> usize
     RECORDS_AT + n * (RECORD_FIELDS + n)
 }
 
-// The whole call, on the epoch's words at the front of these.
-fn run_in(all: &mut [u64; 128], call: Call, answers: &[u64], step: Step, words: &mut [u64]) -> Ran {
-    let how = call.how;
-    let net = how.net;
-    let length = epoch_length(net.num_nodes);
-    let mut place = first(answers);
-    let ran = run(&mut all[..length], call, answers, &mut place, step, words);
-    let batch = ran.batch;
-    let done = ran.step;
-    Ran {
-        reply: reply_at(ran.reply, place),
-        batch,
-        step: done,
+// The whole call, on the epoch's words at the front of these. Each answer must be read.
+fn run_in(
+    all: &mut [u64; 128],
+    call: Call,
+    answers: &[u64],
+    writer: &mut Writer,
+) -> Result<bool, End> {
+    let length = epoch_length(call.how.net.num_nodes);
+    let mut reader = Reader::new(answers, first(answers));
+    let ran = run(&mut all[..length], call, &mut reader, writer);
+    if ran != Err(End::Stopped(Stop::NotNext)) && reader.place() != 0 {
+        return Err(End::Unread);
     }
+    ran
 }
 
 // The reply and the words of the step table.
@@ -418,11 +375,14 @@ fn write<W: Write>(
         return show(out, STEP_TABLE_TOO_SHORT, &[]);
     };
     let mut table = vec![in alloc; 0; length]?;
-    let step = begin(counted, &mut table, call.epoch);
     let mut epoch = before;
-    let ran = run_in(&mut epoch, call, answers, step, &mut table);
-    show(out, ran.reply, &table)?;
-    if !ran.batch {
+    let mut writer = Writer {
+        step: begin(counted, &mut table, call.epoch),
+        words: &mut table,
+    };
+    let ran = run_in(&mut epoch, call, answers, &mut writer);
+    show(out, ran.map_or_else(u64::from, |_| SUCCESS), &table)?;
+    if ran != Ok(true) {
         show_words(out, &epoch)?;
     }
     Ok(())
@@ -437,15 +397,18 @@ fn call_twice<W: Write>(
     answers: &[u64],
 ) -> io::Result<()> {
     let mut epoch = before;
-    let ran = run_in(&mut epoch, call, answers, Step::counting(), &mut []);
-    let reply = ran.reply;
-    if reply == SUCCESS {
-        let counted = ran.step;
+    let mut counting = Writer {
+        step: Step::counting(),
+        words: &mut [],
+    };
+    let ran = run_in(&mut epoch, call, answers, &mut counting);
+    let counted = counting.step;
+    let Err(end) = ran else {
         return write(out, alloc, before, call, answers, counted);
-    }
+    };
     let mut table = [0u64; 4];
     Step::counting().header(&mut table, call.epoch);
-    show(out, reply, &table)?;
+    show(out, u64::from(end), &table)?;
     show_words(out, &epoch)
 }
 

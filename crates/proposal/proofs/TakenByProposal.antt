@@ -10,7 +10,7 @@ use lib.Dec.{eqb}
 use borrow.Author.Tests.{eqb-true, eqb-false, ne_eqb}
 use Rattle.steps.specs.declared.reader.Content.{Content}
 use Rattle.steps.specs.declared.reader.Content.TheVariants.{Broadcast, Agreement}
-use Rattle.steps.specs.declared.reader.Answer.TheVariants.{Got, Refused}
+use Rattle.steps.specs.Answers.{Got, Refused}
 use Rattle.steps.specs.Table.{within}
 use Rattle.steps.specs.Answers.{Rec, Tape, tape, asked, ask_for, ask_about}
 use Rattle.steps.specs.Taken.{or_else, is_there, last_output_in, first_taken, of_value, of_decision, is_asked}
