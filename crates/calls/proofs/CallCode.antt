@@ -3,21 +3,18 @@ use Prim.Native.Nat.{ℕ, ◌+◌, ◌-◌, ◌/◌, ◌<◌, ◌≤◌}
 use native.Mathlib.Omega.{arith}
 use mathlib.Core.Path.{◌≡◌, refl, sym, ap, ◌∙◌}
 use mathlib.Core.List.{List, [], ◌∷◌, ◌++◌}
-use mathlib.Core.Bool.{Bool, true, false}
+use mathlib.Core.Bool.{Bool, true, false, true≢false}
 use lib.ListN.{length, drop, replicate}
 use lib.Seq.{drop-append-add, drop-drop, get_or-set_other}
-use lib.Dec.{leb}
-use borrow.Author.Tests.{lt-ltb, le-ltb, leb-true, leb-false}
+use borrow.Author.Tests.{lt-ltb, le-ltb}
 use Rattle.steps.specs.Numbers.{fault_limit}
-use Rattle.steps.specs.Answers.{Tape, chain}
+use Rattle.steps.specs.Answers.{Tape, tape_of}
 use Rattle.steps.specs.declared.step.Step.{Step}
-use Rattle.steps.specs.Steps.{Entry, fault, faults, messages, outputs, out, put_all, put_entry, counting, Counted, writing, records, put_header, written}
-use Rattle.steps.specs.Runs.{going, failed, number_of, Run, Left, ends, before, leaves}
-use Rattle.steps.proofs.ChainLaws.{chain_on, chain_off, on_record_lem, off_at_zero, off_past, put_all_one}
+use Rattle.steps.specs.Steps.{Entry, fault, faults, messages, outputs, out, Out, put_all, put_entry, counting, Counted, writing, records, put_header, written}
+use Rattle.steps.specs.Runs.{Verdict, going, refused, failed, number_of, Run, Left, ends, before, leaves}
+use Rattle.steps.proofs.ChainLaws.{put_all_one}
 use Rattle.steps.proofs.FirstRunCounts.{counted}
 use Rattle.steps.proofs.SecondRunWrites.{finished_failed, finished_exact, finished}
-use Rattle.epoch.specs.declared.epoch_state.Outcome.TheVariants.{Done, Refused, Failed}
-use Rattle.epoch.specs.Outcomes.{outcome_verdict}
 use Rattle.subset.specs.Words.{epoch_length}
 use Rattle.state.specs.State.{nodes, input_at, faults_at, fault_count, scratch_of, state_ok}
 use Rattle.state.proofs.WordsCode.{place_inside}
@@ -25,27 +22,13 @@ use Rattle.state.proofs.RangeCode.{ok_words}
 use Rattle.state.proofs.RangesState.{scratch_is, header_ok}
 use Rattle.work.specs.declared.honey_badger.Call.{Call}
 use Rattle.work.specs.declared.honey_badger.Call.TheVariants.{Propose, Message}
-use Rattle.work.specs.declared.honey_badger.Ran.{Ran}
 use Rattle.calls.specs.Calls.{after, zeroed, count_faults, is_end, conclude_as, conclude}
-use Rattle.work.specs.Work.{Worked, worked, committed}
-use Rattle.calls.specs.Shape.{settled, all_read, as_done}
-use Rattle.work.specs.Shape.{call_base, left_ran, count_more}
+use Rattle.work.specs.Work.{Worked, committed}
+use Rattle.calls.specs.Shape.{settled, all_read, as_done, Runnable, counted_by}
+use Rattle.work.specs.Shape.{call_base, call_work, count_more}
 use Rattle.calls.proofs.Settled.{count_none}
-use Rattle.work.proofs.Bounded.{CountedExactly}
+use Rattle.work.proofs.Bounded.{CountedExactly, call_exact}
 use Rattle.work.proofs.RunBesideState.{over_same, over_input, commit_count}
-
--- THE END of a chain
-pub end_zero : (t : List ℕ) → true ≡ is_end (chain t 0)
-unfolding is_end
-end_zero t = rw (chain_off t 0 (off_at_zero t))
-
-pub end_at : (t : List ℕ) (i : ℕ) → (i ≡ 0 → ⊥) → leb (length t / 4) i ≡ is_end (chain t i)
-unfolding is_end
-end_at t i h = go (leb (length t / 4) i) refl
-  where
-    go : (x : Bool) → leb (length t / 4) i ≡ x → x ≡ is_end (chain t i)
-    go true e = rw (chain_off t i (off_past t i (leb-true _ _ e)))
-    go false e = let l : i < length t / 4 = leb-false _ _ e in rw (chain_on t i (on_record_lem t i (omega arith) l))
 
 -- SCRATCH: a first part of it was written
 pub zeroed_part : (w s x : List ℕ) (l : ℕ) → length x ≡ l → l ≤ scratch_of w → zeroed w (x ++ drop l s) ≡ zeroed w s
@@ -60,10 +43,9 @@ zeroed_part w s x l e h =
 pub epoch_fits : (w : List ℕ) → state_ok w ≡ true → epoch_length (nodes w) ≤ scratch_of w
 epoch_fits w ok = omega (arith, scratch_is w ok, place_inside w (ok_words w ok) 0)
 
--- a part without words
-pub nothing : (v w : List ℕ) → length v ≡ 0 → v ++ w ≡ w
-nothing [] w e = refl
-nothing (a ∷ v) w e = absurd (omega arith)
+-- a reader that stands at p has come to its end
+pub end_is : (q p : Tape) (b : Bool) → q ≡ p → b ≡ is_end q.rest → is_end p.rest ≡ b
+end_is q p b e f = rw (← e, f)
 
 pub after_same : (r : ℕ) (a b c d e f : List ℕ) → a ≡ b → c ≡ d → e ≡ f → after r a c e ≡ after r b d f
 after_same r a b c d e f x y z = rw (x, y, z)
@@ -100,20 +82,20 @@ one_fault w k a b = refl
 pub none_counted : (k : Step) → k ≡ counting → Counted k
 none_counted k K = rw K (record { messages = omega arith; faults = omega arith; outputs = omega arith })
 
--- k was counted without a table, then its record was written
-module _ (f : Entry) (j : Step) (J : j ≡ counting) (k : Step) (v : List ℕ) (K : out k v ≡ put_entry (out j []) f) where
-  early_step : k ≡ (put_all (out counting []) (f ∷ [])).step
-  early_step = ap (λ o. o.step) (K ∙ ap (λ (j : Step). put_entry (out j []) f) J ∙ sym (put_all_one (out counting []) f))
+-- f was counted without a table, and q is what that left; then its record was written
+module _ (f : Entry) (o q : Out) (J : o ≡ out counting []) (K : q ≡ put_entry o f) where
+  early_step : q.step ≡ (put_all (out counting []) (f ∷ [])).step
+  early_step = ap (λ o. o.step) (K ∙ ap (λ o. put_entry o f) J ∙ sym (put_all_one (out counting []) f))
 
-  pub early_counted : Counted k
+  pub early_counted : Counted q.step
   early_counted = rw early_step (counted (f ∷ []) [])
 
-  pub early_done : (w s table t : List ℕ) → t ≡ table → (e : ℕ) (p : Tape) (g : Step) → g ≡ writing k → (h : Step) (y : List ℕ) → out h y ≡ put_entry (out g t) f
+  pub early_done : (w s table : List ℕ) (e : ℕ) (p : Tape) (g : Step) → g ≡ writing q.step → (h : Out) → h ≡ put_entry (out g table) f → (t : List ℕ) → t ≡ h.words
       → is_end p.rest ≡ true → 2 ≤ length table / 4
-      → after 0 (count_faults w (f ∷ [])) s (put_header y g e) ≡ conclude (before (f ∷ []) (ends (going tt) w p)) e w s table
-  early_done w s table t T e p g G h y Y r l =
-      let words : y ≡ (put_all (out g table) (f ∷ [])).words = ap (λ o. o.words) (Y ∙ ap (λ t. put_entry (out g t) f) T ∙ sym (put_all_one (out g table) f)) in
-      let step : put_header y g e ≡ written table (f ∷ []) e =
+      → after 0 (count_faults w (f ∷ [])) s (put_header t g e) ≡ conclude (before (f ∷ []) (ends (going tt) w p)) e w s table
+  early_done w s table e p g G h H t T r l =
+      let words : t ≡ (put_all (out g table) (f ∷ [])).words = T ∙ ap (λ o. o.words) (H ∙ sym (put_all_one (out g table) f)) in
+      let step : put_header t g e ≡ written table (f ∷ []) e =
       ap (λ x. put_header x g e) words
       ∙ ap (λ (g : Step). put_header (put_all (out g table) (f ∷ [])).words g e) (G ∙ ap writing early_step)
       ∙ finished (f ∷ []) [] table e (omega arith) (omega arith) in
@@ -130,33 +112,6 @@ module _ (w v s table : List ℕ) (e c : ℕ) (x : Worked) where
   unfolding conclude_as is_end number_of
   failed_done l k K = rw (le-ltb (length table / 4) 1 (omega arith), K, finished_failed table e l)
 
--- A CALL THAT IS DONE, whose run R was counted as k
-module _ (w v s table : List ℕ) (e : ℕ) (R : Run Worked (Unit {0})) (few : CountedExactly R.log) (k : Step) (K : k ≡ (put_all (out counting []) R.log).step) where
-  pub done_counted : Counted k
-  done_counted = rw K (counted R.log [])
-
-  pub done_full : length table / 4 < records k → after 10 w s table ≡ settled (as_done R) e v w s table
-  unfolding conclude_as is_end
-  done_full l =
-      let z : records k ≡ 1 + length R.log = ap records K ∙ few.records [] in
-      rw (lt-ltb (length table / 4) (1 + length R.log) (omega arith))
-
-  -- the second run left this
-  pub done_written : records k ≤ length table / 4 → (g : Step) → g ≡ writing k → (q : Ran) (y : List ℕ) (p : Tape) (u : List ℕ) → left_ran q y p u ≡ leaves (out g table) R
-      → after 0 (count_more (committed v e (worked y q.next)) k.faults.at) s (put_header u g e) ≡ settled (as_done R) e v w s table
-  unfolding conclude_as is_end count_faults count_more number_of
-  done_written l g G q y p u F =
-      let z : records k ≡ 1 + length R.log = ap records K ∙ few.records [] in
-      let room : 1 + length R.log ≤ length table / 4 = omega arith in
-      let state : worked y q.next ≡ R.state = ap (λ (d : Left Worked (Unit {0})). d.state) F in
-      let words : u ≡ (put_all (out g table) R.log).words = ap (λ (d : Left Worked (Unit {0})). d.out.words) F in
-      let n : k.faults.at ≡ length (faults R.log) = ap (λ (k : Step). k.faults.at) (K ∙ few.count []) in
-      let step : put_header u g e ≡ written table R.log e =
-      ap (λ x. put_header x g e) words
-      ∙ ap (λ (g : Step). put_header (put_all (out g table) R.log).words g e) (G ∙ ap writing K)
-      ∙ few.finishes [] table e room in
-      rw (step, n, state, le-ltb (length table / 4) (1 + length R.log) room)
-
 -- THE COMMIT leaves a fault count in range, since it writes none
 pub commit_counted : (call : Call) (w : List ℕ) → state_ok w ≡ true → (e : ℕ) (x : Worked) → length x.words ≡ epoch_length (nodes w)
     → fault_count (committed (call_base call w) e x) ≤ fault_limit
@@ -170,50 +125,98 @@ none_in : (log : List Entry) → length log ≡ 0 → log ≡ []
 none_in [] z = refl
 none_in (a ∷ log) z = absurd (omega arith)
 
--- AFTER THE FIRST RUN, which left this of R; its table had no words
-module _ (w v s table t : List ℕ) (T : t ≡ table) (e : ℕ) (R : Run Worked (Unit {0})) (r : Ran) (x : List ℕ) (p : Tape) (u : List ℕ)
-    (k : Step) (K : k ≡ counting) (E : left_ran r x p u ≡ leaves (out k []) R) where
-  verdict_is : R.verdict ≡ outcome_verdict r.outcome
-  verdict_is = sym (ap (λ (d : Left Worked (Unit {0})). d.verdict) E)
+-- A CALL THAT IS DONE, whose first run counted k
+module _ {call : Call} {w x answers : List ℕ} (h : Runnable call w x answers) (s table : List ℕ) (e : ℕ) (k : Step) (K : k ≡ counted_by call e w answers) where
+  run_of : Run Worked (Unit {0})
+  run_of = call_work call e w (tape_of answers)
 
-  tape_is : R.tape ≡ p
-  tape_is = sym (ap (λ (d : Left Worked (Unit {0})). d.tape) E)
+  exact : CountedExactly run_of.log
+  unfolding run_of
+  exact = call_exact w h.ok answers h.good call e
 
-  state_is : R.state ≡ worked x r.next
-  state_is = sym (ap (λ (d : Left Worked (Unit {0})). d.state) E)
+  pub done_counted : Counted k
+  done_counted = rw K (counted (call_work call e w (tape_of answers)).log [])
 
-  pub first_step : r.step ≡ (put_all (out counting []) R.log).step
-  first_step = ap (λ (d : Left Worked (Unit {0})). d.out.step) E ∙ ap (λ (k : Step). (put_all (out k []) R.log).step) K
+  pub done_full : length table / 4 < records k → after 10 w s table ≡ settled (as_done (call_work call e w (tape_of answers))) e (call_base call w) w s table
+  unfolding conclude_as is_end run_of
+  done_full l =
+      let z : records k ≡ 1 + length run_of.log = ap records K ∙ exact.records [] in
+      rw (lt-ltb (length table / 4) (1 + length run_of.log) (omega arith))
 
-  pub first_counted : Counted r.step
-  first_counted = rw first_step (counted R.log [])
+  -- the second run left d, and t is the table then
+  pub done_written : records k ≤ length table / 4 → (g : Step) → g ≡ writing k → (q : Tape) → q ≡ tape_of answers → (d : Left Worked (Unit {0})) → d ≡ leaves (out g table) (call_work call e w q)
+      → (t : List ℕ) → t ≡ d.out.words
+      → after 0 (count_more (committed (call_base call w) e d.state) k.faults.at) s (put_header t g e) ≡ settled (as_done (call_work call e w (tape_of answers))) e (call_base call w) w s table
+  unfolding conclude_as is_end count_faults count_more number_of run_of
+  done_written l g G q Q d D t T =
+      let z : records k ≡ 1 + length run_of.log = ap records K ∙ exact.records [] in
+      let room : 1 + length run_of.log ≤ length table / 4 = omega arith in
+      let F : d ≡ leaves (out g table) run_of = D ∙ ap (λ q. leaves (out g table) (call_work call e w q)) Q in
+      let state : d.state ≡ run_of.state = ap (λ (d : Left Worked (Unit {0})). d.state) F in
+      let words : t ≡ (put_all (out g table) run_of.log).words = T ∙ ap (λ (d : Left Worked (Unit {0})). d.out.words) F in
+      let n : k.faults.at ≡ length (faults run_of.log) = ap (λ (k : Step). k.faults.at) (K ∙ exact.count []) in
+      let step : put_header t g e ≡ written table run_of.log e =
+      ap (λ x. put_header x g e) words
+      ∙ ap (λ (g : Step). put_header (put_all (out g table) run_of.log).words g e) (G ∙ ap writing K)
+      ∙ exact.finishes [] table e room in
+      rw (step, n, state, le-ltb (length table / 4) (1 + length run_of.log) room)
 
-  pub first_refused : r.outcome ≡ Refused → after 8 w s t ≡ settled R e v w s table
+abbrev pub is_refused : Verdict (Unit {0}) → Bool
+is_refused (going a) = false
+is_refused refused = true
+is_refused (failed c) = false
+
+-- AFTER THE FIRST RUN, which counted from o on and read from q on, and left d
+module _ {call : Call} {w x answers : List ℕ} (h : Runnable call w x answers) (s table : List ℕ) (e : ℕ) (q : Tape) (Q : q ≡ tape_of answers) (o : Out) (O : o ≡ out counting []) (d : Left Worked (Unit {0}))
+    (D : d ≡ leaves o (call_work call e w q)) where
+  left_is : d ≡ leaves (out counting []) (call_work call e w (tape_of answers))
+  left_is = D ∙ rw (O, Q)
+
+  verdict_is : (call_work call e w (tape_of answers)).verdict ≡ d.verdict
+  verdict_is = sym (ap (λ (d : Left Worked (Unit {0})). d.verdict) left_is)
+
+  tape_is : (call_work call e w (tape_of answers)).tape ≡ d.tape
+  tape_is = sym (ap (λ (d : Left Worked (Unit {0})). d.tape) left_is)
+
+  state_is : (call_work call e w (tape_of answers)).state ≡ d.state
+  state_is = sym (ap (λ (d : Left Worked (Unit {0})). d.state) left_is)
+
+  pub first_step : d.out.step ≡ counted_by call e w answers
+  first_step = ap (λ (d : Left Worked (Unit {0})). d.out.step) left_is
+
+  pub first_counted : Counted d.out.step
+  first_counted = done_counted h s table e d.out.step first_step
+
+  pub first_refused : d.verdict ≡ refused → after 8 w s table ≡ settled (call_work call e w (tape_of answers)) e (call_base call w) w s table
   unfolding conclude_as number_of
-  first_refused h = rw (T, verdict_is, h)
+  first_refused v = rw (verdict_is, v)
 
-  module _ (c : ℕ) (h : r.outcome ≡ Failed c) where
-    pub failed_unread : is_end p.rest ≡ false → after 9 w s t ≡ settled R e v w s table
-    unfolding conclude_as
-    failed_unread f = rw (T, verdict_is, h, tape_is, f)
+  pub unread : is_refused d.verdict ≡ false → is_end d.tape.rest ≡ false → after 9 w s table ≡ settled (call_work call e w (tape_of answers)) e (call_base call w) w s table
+  unfolding conclude_as
+  unread v f = go d.verdict refl v
+    where
+      go : (u : Verdict (Unit {0})) → d.verdict ≡ u → is_refused u ≡ false → after 9 w s table ≡ settled (call_work call e w (tape_of answers)) e (call_base call w) w s table
+      go (going a) u v = rw (verdict_is, u, tape_is, f)
+      go (failed c) u v = rw (verdict_is, u, tape_is, f)
+      go refused u v = absurd (true≢false v)
 
-    pub failed_read : is_end p.rest ≡ true → settled (ends (failed c) (worked x r.next) all_read) e v w s t ≡ settled R e v w s table
+  module _ (c : ℕ) (v : d.verdict ≡ failed c) where
+    pub failed_read : is_end d.tape.rest ≡ true
+        → settled (ends (failed c) d.state all_read) e (call_base call w) w s table ≡ settled (call_work call e w (tape_of answers)) e (call_base call w) w s table
     unfolding conclude_as is_end
-    failed_read f = rw (T, verdict_is, h, tape_is, f, state_is)
+    failed_read f = rw (verdict_is, v, tape_is, f, state_is)
 
-  module _ (h : r.outcome ≡ Done) where
-    pub done_unread : is_end p.rest ≡ false → after 9 w s t ≡ settled R e v w s table
-    unfolding conclude_as
-    done_unread f = rw (T, verdict_is, h, tape_is, f)
-
-    pub done_read : is_end p.rest ≡ true → settled (as_done R) e v w s t ≡ settled R e v w s table
+  module _ (v : d.verdict ≡ going tt) where
+    pub done_read : is_end d.tape.rest ≡ true
+        → settled (as_done (call_work call e w (tape_of answers))) e (call_base call w) w s table ≡ settled (call_work call e w (tape_of answers)) e (call_base call w) w s table
     unfolding conclude_as is_end
-    done_read f = rw (T, verdict_is, h, tape_is, f)
+    done_read f = rw (verdict_is, v, tape_is, f)
 
     -- nothing was counted: the log is empty, and what a failure would leave is left, with the number of success
-    pub done_empty : is_end p.rest ≡ true → CountedExactly R.log → records r.step ≡ 1 → fault_count (committed v e (worked x r.next)) ≤ fault_limit
-        → settled (ends (failed 0) (worked x r.next) all_read) e v w s t ≡ settled R e v w s table
+    pub done_empty : is_end d.tape.rest ≡ true → records d.out.step ≡ 1 → length d.state.words ≡ epoch_length (nodes w)
+        → settled (ends (failed 0) d.state all_read) e (call_base call w) w s table ≡ settled (call_work call e w (tape_of answers)) e (call_base call w) w s table
     unfolding conclude_as is_end number_of
-    done_empty f few one low =
-        let z : 1 + length R.log ≡ 1 = sym (few.records []) ∙ sym (ap records first_step) ∙ one in
-        rw (T, verdict_is, h, tape_is, f, state_is, none_in R.log (omega arith), count_none (committed v e (worked x r.next)) low)
+    done_empty f one long =
+        let few : CountedExactly (call_work call e w (tape_of answers)).log = call_exact w h.ok answers h.good call e in
+        let z : 1 + length (call_work call e w (tape_of answers)).log ≡ 1 = sym (few.records []) ∙ sym (ap records first_step) ∙ one in
+        rw (verdict_is, v, tape_is, f, state_is, none_in (call_work call e w (tape_of answers)).log (omega arith), count_none (committed (call_base call w) e d.state) (commit_counted call w h.ok e d.state long))

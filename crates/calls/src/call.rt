@@ -1,44 +1,53 @@
 // The way of a call that has passed its checks: a first run that only counts, 8, 9 and 10, a second run that writes if there are records, then the commit.
 // What is left in scratch is cleared by the caller.
 ghost use Rattle.std.specs.Prelude.{◌≡◌, length, List, [], ◌∷◌, true, ℕ, ◌≤◌};
-ghost use Rattle.steps.specs.Answers.{chain, tape_of};
-ghost use Rattle.steps.specs.Steps.{fault};
+ghost use Rattle.steps.specs.Answers.{tape_of};
+ghost use Rattle.steps.specs.Steps.{fault, out, counting};
 ghost use Rattle.steps.specs.Runs.{going, failed, ends, before};
+ghost use Rattle.steps.specs.Written.{out_of};
 ghost use Rattle.steps.specs.Numbers.{unexpected_hb_message_epoch};
 ghost use Rattle.subset.specs.Words.{epoch_length};
 ghost use Rattle.state.specs.State.{nodes, state_ok};
 ghost use Rattle.state.specs.Shape.{StateWords};
-ghost use Rattle.calls.specs.Calls.{after, zeroed, is_end, conclude};
+ghost use Rattle.calls.specs.Calls.{after, zeroed, conclude};
 ghost use Rattle.work.specs.Work.{worked};
 ghost use Rattle.work.specs.Shape.{call_work, call_base};
 ghost use Rattle.calls.specs.Shape.{settled, all_read, as_done, Callable, Runnable, counted_by};
 
-use epoch::epoch_state::Outcome;
 use state::words::{NODES_AT, epoch_length};
-use steps::numbers::{
-    ANSWER_NOT_NEXT, ANSWERS_UNREAD, STEP_TABLE_TOO_SHORT, SUCCESS, UNEXPECTED_HB_MESSAGE_EPOCH,
-};
-use steps::step::Step;
+use steps::kinds::{FaultKind, Stop};
+use steps::numbers::{ANSWER_NOT_NEXT, ANSWERS_UNREAD, STEP_TABLE_TOO_SHORT, SUCCESS};
+use steps::reader::Reader;
+use steps::step::{Step, Writer};
 use work::commit::{commit, count_faults};
 use work::honey_badger::{Call, run};
 
-// Whether no answer is left unread.
-fn is_end(answers: &[u64], place: usize) -> bool
-    ensures { result ≡ is_end (chain answers.now place) }
+// A reader at the first answer, which record 0 names.
+fn reader_of<'a>(answers: &'a [u64]) -> Reader<'a>
+    requires { 4 ≤ length answers.now }
+    ensures { result ≡ tape_of answers.now }
 {
-    if place == 0 {
-        return true;
+    Reader::new(answers, answers[0] as usize)
+}
+
+// A writer without a table, that counts.
+fn counter<'a>() -> Writer<'a>
+    ensures { out_of result ≡ out counting [] }
+{
+    Writer {
+        step: Step::counting(),
+        words: &mut [],
     }
-    answers.len() / 4 <= place
 }
 
 // A call that runs no epoch: an observer's propose, and a message for an epoch that is over. Its step is empty.
+#[tactic(auto, using(crate::proofs::CallCode::none_counted))]
 pub fn rest(epoch: u64, state: &[u64], answers: &[u64], table: &mut [u64]) -> u64
     requires { (state_ok state.now ≡ true) × (4 ≤ length answers.now) }
     ensures { (scratch : List ℕ) → after result state.now scratch table.new
         ≡ conclude (ends (going tt) state.now (tape_of answers.now)) epoch state.now scratch table.old }
 {
-    if !is_end(answers, answers[0] as usize) {
+    if !reader_of(answers).is_end() {
         return ANSWERS_UNREAD;
     }
     if table.len() < 4 {
@@ -49,6 +58,7 @@ pub fn rest(epoch: u64, state: &[u64], answers: &[u64], table: &mut [u64]) -> u6
 }
 
 // A message for an epoch beyond the look-ahead: fault 1 of its sender.
+#[tactic(auto, using(state::proofs::WordsCode::header_inside, state::proofs::RangeCode::ok_words))]
 pub fn too_early(
     sender: u64,
     epoch: u64,
@@ -60,16 +70,18 @@ pub fn too_early(
     ensures { (scratch : List ℕ) → after result state.new scratch table.new
         ≡ conclude (before (fault unexpected_hb_message_epoch sender 0 ∷ []) (ends (going tt) state.old (tape_of answers.now))) epoch state.old scratch table.old }
 {
-    if !is_end(answers, answers[0] as usize) {
+    if !reader_of(answers).is_end() {
         return ANSWERS_UNREAD;
     }
     if table.len() / 4 < 2 {
         return STEP_TABLE_TOO_SHORT;
     }
-    let counted = Step::counting().fault(&mut table[..0], UNEXPECTED_HB_MESSAGE_EPOCH, sender, 0);
-    let writing = counted.writing();
-    let _ = writing.fault(table, UNEXPECTED_HB_MESSAGE_EPOCH, sender, 0);
-    writing.header(table, epoch);
+    let mut counter = counter();
+    counter.fault(FaultKind::UnexpectedHbMessageEpoch, sender, 0);
+    let step = counter.step.writing();
+    let mut writer = Writer { step, words: table };
+    writer.fault(FaultKind::UnexpectedHbMessageEpoch, sender, 0);
+    step.header(table, epoch);
     count_faults(state, 1);
     SUCCESS
 }
@@ -114,16 +126,22 @@ fn finish(
     if table.len() / 4 < counted.records() {
         return STEP_TABLE_TOO_SHORT;
     }
-    let mut again = answers[0] as usize;
-    let writing = counted.writing();
-    let second = run(
-        state, epoch, call, words, answers, &mut again, writing, table,
+    let step = counted.writing();
+    let mut next = 0;
+    let mut reader = reader_of(answers);
+    let mut writer = Writer { step, words: table };
+    let _ = run(
+        state,
+        epoch,
+        call,
+        words,
+        &mut next,
+        &mut reader,
+        &mut writer,
     );
-    let current = second.next;
-    writing.header(table, epoch);
-    commit(state, call, epoch, words, current);
-    let faults = counted.faults;
-    count_faults(state, faults.at);
+    step.header(table, epoch);
+    commit(state, call, epoch, words, next);
+    count_faults(state, counted.faults.at);
     SUCCESS
 }
 
@@ -140,39 +158,26 @@ fn run_twice(
     ensures { (scratch : List ℕ) → after result state.new scratch table.new
         ≡ settled (call_work call epoch state.old (tape_of answers.now)) epoch (call_base call state.old) state.old scratch table.old }
 {
-    let mut place = answers[0] as usize;
-    let counting = Step::counting();
-    let first = run(
+    let mut next = 0;
+    let mut reader = reader_of(answers);
+    let mut counter = counter();
+    let outcome = run(
         state,
         epoch,
         call,
         words,
-        answers,
-        &mut place,
-        counting,
-        &mut table[..0],
+        &mut next,
+        &mut reader,
+        &mut counter,
     );
-    let next = first.next;
-    let counted = first.step;
-    let outcome = first.outcome;
-    let read = is_end(answers, place);
+    let read = reader.is_end();
+    let counted = counter.step;
     match outcome {
-        Outcome::Refused => ANSWER_NOT_NEXT,
-        Outcome::Failed(error) => {
-            if !read {
-                return ANSWERS_UNREAD;
-            }
-            close(state, words, epoch, call, next, error, table)
-        }
-        Outcome::Done => {
-            if !read {
-                return ANSWERS_UNREAD;
-            }
-            if counted.records() == 1 {
-                return close(state, words, epoch, call, next, SUCCESS, table);
-            }
-            finish(state, words, epoch, call, answers, counted, table)
-        }
+        Err(Stop::NotNext) => ANSWER_NOT_NEXT,
+        _ if !read => ANSWERS_UNREAD,
+        Err(Stop::Failed(error)) => close(state, words, epoch, call, next, u64::from(error), table),
+        Ok(()) if counted.records() == 1 => close(state, words, epoch, call, next, SUCCESS, table),
+        Ok(()) => finish(state, words, epoch, call, answers, counted, table),
     }
 }
 
