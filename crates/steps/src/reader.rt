@@ -157,7 +157,8 @@ impl<'a> Reader<'a> {
     pub fn place(&self) -> usize
         ensures { result ≡ self.now.place }
     {
-        self.cursor.place
+        let cursor = self.cursor;
+        cursor.place
     }
 
     // The next record, which is not taken.
