@@ -41,6 +41,7 @@ pub enum Input {
 }
 
 // Adds proposer p to the accepted ones.
+#[tactic(auto, unfolding(epochwords::specs::Words::accept))]
 fn accept(epoch: &mut [u64], p: usize)
     requires { (p < 64) × (2 < length epoch.old) }
     ensures { epoch.new ≡ accept epoch.old p }
@@ -78,6 +79,7 @@ fn process_decryption(
 }
 
 // `DecryptionState::set_ciphertext`. A ciphertext that does not verify is fault 4.
+#[tactic(auto, unfolding(crate::specs::Epoch::input_ciphertext, steps::specs::Runs::onward, steps::specs::Runs::onward_as, steps::specs::Steps::put_all))]
 fn input_ciphertext(
     td: &mut ThresholdDecrypt,
     net: NetworkInfo,
@@ -168,6 +170,7 @@ fn send_decryption_share(
 }
 
 // Handles a share of this sender for the contribution of proposer p. Once the subset is done, one for a proposer that was not accepted is fault 2.
+#[tactic(auto, unfolding(crate::specs::Epoch::handle_decryption_share, epochwords::specs::Words::is_accepted, steps::specs::Steps::put_all))]
 fn handle_decryption_share(
     epoch: &mut [u64],
     net: NetworkInfo,
@@ -191,6 +194,7 @@ fn handle_decryption_share(
 }
 
 // Drops the proposal of p.
+#[tactic(auto, unfolding(crate::specs::Epoch::proposal_dropped))]
 fn drop_proposal(epoch: &mut [u64], n: usize, p: usize)
     requires { EpochWords n epoch.old × (p < n) }
     ensures { epoch.new ≡ proposal_dropped n epoch.old p }
@@ -200,6 +204,7 @@ fn drop_proposal(epoch: &mut [u64], n: usize, p: usize)
 }
 
 // `SubsetState::Complete`, which drops the subset.
+#[tactic(auto, unfolding(crate::specs::Epoch::subset_complete))]
 fn subset_complete(epoch: &mut [u64])
     requires { 1 < length epoch.old }
     ensures { epoch.new ≡ subset_complete epoch.old }
@@ -365,6 +370,7 @@ fn handle_contributions(
 }
 
 // Whether contributions are handled now: Incremental handles them as they come, AllAtEnd all of them when the subset is done.
+#[tactic(auto, unfolding(crate::specs::Epoch::handles_now))]
 fn handles_now(strategy: SubsetHandlingStrategy, done: bool) -> bool
     ensures { result ≡ handles_now strategy done }
 {
