@@ -50,6 +50,7 @@ fn accept(epoch: &mut [u64], p: usize)
 }
 
 // Stores the entry of proposer p after a call: a plaintext completes it. After a failure it is as the call left it.
+#[tactic(auto, unfolding(crate::specs::Epoch::process_decryption, crate::specs::Epoch::entry_after, epochwords::specs::Words::store_decryption, steps::specs::Runs::onward, steps::specs::Runs::onward_as))]
 fn process_decryption(
     epoch: &mut [u64],
     net: NetworkInfo,
@@ -227,6 +228,7 @@ fn unexpected_from(n: usize, td: &ThresholdDecrypt, writer: &mut Writer)
 }
 
 // The faults of the senders of shares for proposer p, where its decryption is ongoing.
+#[tactic(auto, unfolding(crate::specs::Epoch::unexpected_shares, epochwords::specs::Words::load_decryption, steps::specs::Steps::put_all))]
 fn unexpected_shares(epoch: &[u64], n: usize, p: usize, writer: &mut Writer)
     requires { EpochWords n epoch.now × (p < n) }
     ensures step { out_of writer.new ≡ put_all (out_of writer.old) (unexpected_shares n (load_decryption n epoch.now p)) }
@@ -239,6 +241,7 @@ fn unexpected_shares(epoch: &[u64], n: usize, p: usize, writer: &mut Writer)
 }
 
 // The end of `Done` for proposer p: its proposal is dropped, and, where it was not accepted, its entry, with a fault 2 for each share.
+#[tactic(auto, using(steps::proofs::RunLaws::leaves_before), unfolding(crate::specs::Epoch::finish_at, epochwords::specs::Words::is_accepted, epochwords::specs::Words::store_decryption, steps::specs::Steps::put_all))]
 fn finish_at(epoch: &mut [u64], net: NetworkInfo, p: usize, writer: &mut Writer)
     requires { EpochWords net.num_nodes epoch.old × (p < net.num_nodes) }
     ensures run { (t : Tape) → left epoch.new (Ok tt) t writer.new ≡ leaves (out_of writer.old) (finish_at net p epoch.old t) }
@@ -266,6 +269,7 @@ fn finish(epoch: &mut [u64], net: NetworkInfo, writer: &mut Writer)
 }
 
 // Handles the contribution of proposer p, and accepts it once that went well. In a plain epoch it is its own plaintext.
+#[tactic(auto, using(steps::proofs::RunLaws::leaves_before), unfolding(crate::specs::Epoch::handle_contribution, epochwords::specs::Words::store_decryption, steps::specs::Runs::onward, steps::specs::Runs::onward_as, steps::specs::Steps::put_all))]
 fn handle_contribution(
     epoch: &mut [u64],
     net: NetworkInfo,
@@ -446,6 +450,7 @@ fn input_subset(
 }
 
 // Calls the subset: its contributions join the list. A failed call hands up nothing: those past the first `count` are lost with its step.
+#[tactic(auto, using(steps::proofs::RunsInParts::leaves_inside), unfolding(crate::specs::Epoch::handed_up, steps::specs::Steps::put_all))]
 fn hand_up(
     epoch: &mut [u64],
     net: NetworkInfo,
