@@ -102,6 +102,7 @@ fn input_ciphertext(
 }
 
 // Hands the ciphertext to the entry of proposer p, unless that asks nothing any more.
+#[tactic(auto, unfolding(crate::specs::Epoch::call_entry, epochwords::specs::Words::asks, steps::specs::Steps::put_all))]
 fn input_entry(
     epoch: &mut [u64],
     net: NetworkInfo,
@@ -125,6 +126,7 @@ fn input_entry(
 }
 
 // Hands a share to the entry of proposer p, unless that asks nothing any more.
+#[tactic(auto, unfolding(crate::specs::Epoch::call_entry, epochwords::specs::Words::asks, steps::specs::Steps::put_all))]
 fn share_entry(
     epoch: &mut [u64],
     net: NetworkInfo,
@@ -149,6 +151,7 @@ fn share_entry(
 }
 
 // Hands the ciphertext of proposer p to threshold decryption, which sends the own share. One that does not read is fault 3.
+#[tactic(auto, unfolding(crate::specs::Epoch::send_decryption_share, steps::specs::Runs::heard, steps::specs::Runs::heard_as, steps::specs::Steps::put_all))]
 fn send_decryption_share(
     epoch: &mut [u64],
     net: NetworkInfo,
@@ -241,7 +244,7 @@ fn unexpected_shares(epoch: &[u64], n: usize, p: usize, writer: &mut Writer)
 }
 
 // The end of `Done` for proposer p: its proposal is dropped, and, where it was not accepted, its entry, with a fault 2 for each share.
-#[tactic(auto, using(steps::proofs::RunLaws::leaves_before), unfolding(crate::specs::Epoch::finish_at, epochwords::specs::Words::is_accepted, epochwords::specs::Words::store_decryption, steps::specs::Steps::put_all))]
+#[tactic(auto, unfolding(crate::specs::Epoch::finish_at, epochwords::specs::Words::is_accepted, epochwords::specs::Words::store_decryption, steps::specs::Steps::put_all))]
 fn finish_at(epoch: &mut [u64], net: NetworkInfo, p: usize, writer: &mut Writer)
     requires { EpochWords net.num_nodes epoch.old × (p < net.num_nodes) }
     ensures run { (t : Tape) → left epoch.new (Ok tt) t writer.new ≡ leaves (out_of writer.old) (finish_at net p epoch.old t) }
@@ -269,7 +272,7 @@ fn finish(epoch: &mut [u64], net: NetworkInfo, writer: &mut Writer)
 }
 
 // Handles the contribution of proposer p, and accepts it once that went well. In a plain epoch it is its own plaintext.
-#[tactic(auto, using(steps::proofs::RunLaws::leaves_before), unfolding(crate::specs::Epoch::handle_contribution, epochwords::specs::Words::store_decryption, steps::specs::Runs::onward, steps::specs::Runs::onward_as, steps::specs::Steps::put_all))]
+#[tactic(auto, unfolding(crate::specs::Epoch::handle_contribution, epochwords::specs::Words::store_decryption, steps::specs::Runs::onward, steps::specs::Runs::onward_as, steps::specs::Steps::put_all))]
 fn handle_contribution(
     epoch: &mut [u64],
     net: NetworkInfo,
@@ -356,6 +359,7 @@ fn first_contributions(epoch: &mut [u64], n: usize, k: usize)
 }
 
 // Handles the contributions of the list. None is left, even after a failure.
+#[tactic(auto, unfolding(crate::specs::Epoch::handle_contributions))]
 fn handle_contributions(
     epoch: &mut [u64],
     net: NetworkInfo,
@@ -385,6 +389,7 @@ fn handles_now(strategy: SubsetHandlingStrategy, done: bool) -> bool
 }
 
 // `process_subset` after a call of the subset that is done or not. What it has handed up is in the list of contributions.
+#[tactic(auto, using(steps::proofs::RunLaws::leaves_before), unfolding(crate::specs::Epoch::process_subset, steps::specs::Runs::onward, steps::specs::Runs::onward_as, steps::specs::Steps::put_all))]
 fn process_subset(
     epoch: &mut [u64],
     net: NetworkInfo,
@@ -410,6 +415,7 @@ fn process_subset(
 }
 
 // The own proposal is serialised outside before the subset gets it.
+#[tactic(auto, unfolding(steps::specs::Runs::heard, steps::specs::Runs::heard_as, steps::specs::Steps::put_all))]
 fn serialise(input: SubsetInput, reader: &mut Reader) -> Result<(), Stop>
     ensures { (w : List ℕ) → left_reading w result reader.new ≡ serialised input w reader.old }
 {
@@ -450,7 +456,7 @@ fn input_subset(
 }
 
 // Calls the subset: its contributions join the list. A failed call hands up nothing: those past the first `count` are lost with its step.
-#[tactic(auto, using(steps::proofs::RunsInParts::leaves_inside), unfolding(crate::specs::Epoch::handed_up, steps::specs::Steps::put_all))]
+#[tactic(auto, unfolding(crate::specs::Epoch::handed_up, steps::specs::Steps::put_all))]
 fn hand_up(
     epoch: &mut [u64],
     net: NetworkInfo,
