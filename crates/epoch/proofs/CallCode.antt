@@ -1,4 +1,4 @@
--- Calls of the subset, a proposal and a message: what the code leaves, case by case. Assumes nothing.
+-- Calls of the subset, a proposal and a message: what the code leaves. Assumes nothing.
 use Prim.Native.Nat.{ℕ}
 use mathlib.Core.Path.{◌≡◌, refl, sym, ap, ◌∙◌}
 use mathlib.Core.List.{List, []}

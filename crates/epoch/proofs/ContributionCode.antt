@@ -1,4 +1,4 @@
--- Contributions and the end of `process_subset`: what the code leaves, case by case. Assumes nothing.
+-- The list of contributions, and handling them: what the code leaves. Assumes nothing.
 use Prim.Native.Nat.{ℕ, zero, suc, ◌+◌, ◌-◌, ◌<◌, ◌≤◌}
 use native.Mathlib.Omega.{arith}
 use mathlib.Core.Path.{◌≡◌, refl, sym, ap, ◌∙◌}
@@ -8,6 +8,12 @@ use lib.ListN.{length, get_or, set, drop, replicate, length-replicate}
 use lib.Seq.{get_or-set_same, get_or-set_other, set_out, set_at, drop-cons, drop-length}
 use lib.Dec.{eqb, ltb}
 use borrow.Author.Tests.{eqb-true, eqb-false, ltb-true, ltb-false}
+use Rattle.std.specs.Prelude.{Ok, Err}
+use Rattle.steps.specs.declared.kinds.Stop.{Stop}
+use Rattle.steps.specs.declared.step.Writer.{Writer}
+use Rattle.steps.specs.Written.{out_of, left}
+use Rattle.steps.specs.Runs.{Run}
+use Rattle.steps.proofs.LentRuns.{onward_ok, onward_err}
 use Rattle.network.specs.declared.network_info.NetworkInfo.{NetworkInfo}
 use Rattle.steps.specs.Answers.{Tape}
 use Rattle.steps.specs.Steps.{Out, put_all}
@@ -62,15 +68,27 @@ module _ (net : NetworkInfo) (strategy : SubsetHandlingStrategy) (encrypted : Bo
       → Listed net.num_nodes w → Listed net.num_nodes d.state
   kept_from m i w t o d e h = rw e (handle_from_keeps _ _ _ net (rules _) strategy encrypted m i 0 w t h)
 
--- one more of the m contributions
-module _ (net : NetworkInfo) (strategy : SubsetHandlingStrategy) (encrypted : Bool) (m i : ℕ) (w : List ℕ) (t : Tape) where
-  pub each_turn : i < m → (p value : ℕ) → p ≡ contributor net.num_nodes w i → value ≡ get_or w (value_at net.num_nodes p) 0
-      → handle_from net strategy encrypted (m - i) i w t
-      ≡ onward (handle_contribution net strategy encrypted p value w t) (λ _ w t. handle_from net strategy encrypted (m - (i + 1)) (i + 1) w t)
-  unfolding handle_from
-  each_turn h p value a b =
+-- ONE MORE of the m contributions, whose proposer and value are these
+module _ (net : NetworkInfo) (strategy : SubsetHandlingStrategy) (encrypted : Bool) (m i : ℕ) (w : List ℕ) (t : Tape) (below : i < m) (p value : ℕ)
+    (who : p ≡ contributor net.num_nodes w i) (what : value ≡ get_or w (value_at net.num_nodes p) 0) where
+  rest : Unit {0} → List ℕ → Tape → Run (List ℕ) (Unit {0})
+  rest _ w t = handle_from net strategy encrypted (m - (i + 1)) (i + 1) w t
+
+  each_turn : handle_from net strategy encrypted (m - i) i w t ≡ onward (handle_contribution net strategy encrypted p value w t) rest
+  unfolding handle_from rest
+  each_turn =
       let e : m - i ≡ suc (m - (i + 1)) = omega arith in
-      rw (e, b, a)
+      rw (e, what, who)
+
+  module _ (s : List ℕ) (q : Tape) (x : Writer) (o : Out) where
+    pub each_goes : left s (Ok tt) q x ≡ leaves o (handle_contribution net strategy encrypted p value w t)
+        → leaves (out_of x) (handle_from net strategy encrypted (m - (i + 1)) (i + 1) s q) ≡ leaves o (handle_from net strategy encrypted (m - i) i w t)
+    unfolding rest
+    each_goes e = rw each_turn (onward_ok s q _ rest x o tt e _ refl)
+
+    pub each_stops : (f : Stop) → left {A = Unit {0}} s (Err f) q x ≡ leaves o (handle_contribution net strategy encrypted p value w t)
+        → left {A = Unit {0}} s (Err f) q x ≡ leaves o (handle_from net strategy encrypted (m - i) i w t)
+    each_stops f e = rw each_turn (onward_err s q _ rest x o f e)
 
   pub each_done : m ≤ i → handle_from net strategy encrypted (m - i) i w t ≡ ends (going tt) w t
   unfolding handle_from

@@ -1,4 +1,6 @@
 // One epoch over its words, after honey_badger/epoch_state.rs. `epoch` are the words of the epoch.
+//
+// `epoch` and `net` are no struct: with one each contract would have to say besides that the network stays, and where the words are.
 ghost use Rattle.std.specs.Prelude.{◌≡◌, ℕ, ◌<◌, ◌≤◌, List, Bool, Ok, length, get_or, set};
 ghost use Rattle.network.specs.Network.{Network};
 ghost use Rattle.steps.specs.Answers.{Tape};
@@ -125,7 +127,8 @@ fn input_entry(
     process_decryption(epoch, net, p, &td, called)
 }
 
-// Hands a share to the entry of proposer p, unless that asks nothing any more.
+// Hands a share to the entry of proposer p, unless that asks nothing any more. It differs from `input_entry` in its call; with the call as
+// a closure one contract for both would have to speak of what any closure leaves.
 #[tactic(auto, unfolding(crate::specs::Epoch::call_entry, epochwords::specs::Words::asks, steps::specs::Steps::put_all))]
 fn share_entry(
     epoch: &mut [u64],

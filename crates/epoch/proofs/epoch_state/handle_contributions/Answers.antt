@@ -1,4 +1,4 @@
--- What `handle_contributions` calls gets what it requires: the list stays one while its contributions are handled. Assumes nothing.
+-- What `handle_contributions` calls gets what it requires: the list of contributions stays one. Assumes nothing.
 use mathlib.Core.Path.{◌∙◌}
 use Rattle.epochwords.specs.declared.SubsetHandlingStrategy.TheVariants.{Incremental}
 use Rattle.epoch.proofs.ContributionCode.{kept_from}
