@@ -69,26 +69,25 @@ module _ (net : NetworkInfo) (strategy : SubsetHandlingStrategy) (encrypted : Bo
   kept_from m i w t o d e h = rw e (handle_from_keeps _ _ _ net (rules _) strategy encrypted m i 0 w t h)
 
 -- ONE MORE of the m contributions, whose proposer and value are these
-module _ (net : NetworkInfo) (strategy : SubsetHandlingStrategy) (encrypted : Bool) (m i : ℕ) (w : List ℕ) (t : Tape) (below : i < m) (p value : ℕ)
-    (who : p ≡ contributor net.num_nodes w i) (what : value ≡ get_or w (value_at net.num_nodes p) 0) where
-  rest : Unit {0} → List ℕ → Tape → Run (List ℕ) (Unit {0})
+module _ (net : NetworkInfo) (strategy : SubsetHandlingStrategy) (encrypted : Bool) (m i : ℕ) (w : List ℕ) (t : Tape) where
+  abbrev rest : Unit {0} → List ℕ → Tape → Run (List ℕ) (Unit {0})
   rest _ w t = handle_from net strategy encrypted (m - (i + 1)) (i + 1) w t
 
-  each_turn : handle_from net strategy encrypted (m - i) i w t ≡ onward (handle_contribution net strategy encrypted p value w t) rest
-  unfolding handle_from rest
-  each_turn =
+  each_turn : i < m → (p value : ℕ) → p ≡ contributor net.num_nodes w i → value ≡ get_or w (value_at net.num_nodes p) 0
+      → handle_from net strategy encrypted (m - i) i w t ≡ onward (handle_contribution net strategy encrypted p value w t) rest
+  unfolding handle_from
+  each_turn h p value who what =
       let e : m - i ≡ suc (m - (i + 1)) = omega arith in
       rw (e, what, who)
 
-  module _ (s : List ℕ) (q : Tape) (x : Writer) (o : Out) where
+  module _ (h : i < m) (p value : ℕ) (who : p ≡ contributor net.num_nodes w i) (what : value ≡ get_or w (value_at net.num_nodes p) 0) (s : List ℕ) (q : Tape) (x : Writer) (o : Out) where
     pub each_goes : left s (Ok tt) q x ≡ leaves o (handle_contribution net strategy encrypted p value w t)
         → leaves (out_of x) (handle_from net strategy encrypted (m - (i + 1)) (i + 1) s q) ≡ leaves o (handle_from net strategy encrypted (m - i) i w t)
-    unfolding rest
-    each_goes e = rw each_turn (onward_ok s q _ rest x o tt e _ refl)
+    each_goes e = onward_ok s q _ rest x o tt e _ refl ∙ ap (leaves o) (sym (each_turn h p value who what))
 
     pub each_stops : (f : Stop) → left {A = Unit {0}} s (Err f) q x ≡ leaves o (handle_contribution net strategy encrypted p value w t)
         → left {A = Unit {0}} s (Err f) q x ≡ leaves o (handle_from net strategy encrypted (m - i) i w t)
-    each_stops f e = rw each_turn (onward_err s q _ rest x o f e)
+    each_stops f e = onward_err s q _ rest x o f e ∙ ap (leaves o) (sym (each_turn h p value who what))
 
   pub each_done : m ≤ i → handle_from net strategy encrypted (m - i) i w t ≡ ends (going tt) w t
   unfolding handle_from
