@@ -3,7 +3,7 @@ use Prim.Native.Nat.{ℕ, zero, suc, ◌+◌, ◌-◌, ◌<◌, ◌≤◌}
 use native.Mathlib.Omega.{arith}
 use mathlib.Core.Path.{◌≡◌, refl, sym, ap, ◌∙◌}
 use mathlib.Core.List.{List, [], ◌∷◌, ◌++◌, append-nil}
-use mathlib.Core.Bool.{Bool, true, false, cond}
+use mathlib.Core.Bool.{Bool, true, false}
 use lib.ListN.{length, get_or, set, drop, replicate, length-replicate}
 use lib.Seq.{get_or-set_same, get_or-set_other, set_out, set_at, drop-cons, drop-length}
 use lib.Dec.{eqb, ltb}
@@ -16,28 +16,17 @@ use Rattle.steps.specs.Runs.{Run}
 use Rattle.steps.proofs.LentRuns.{onward_ok, onward_err}
 use Rattle.network.specs.declared.network_info.NetworkInfo.{NetworkInfo}
 use Rattle.steps.specs.Answers.{Tape}
-use Rattle.steps.specs.Steps.{Out, put_all}
-use Rattle.steps.specs.Runs.{Verdict, going, ends, onward_as, onward, Left, leaves}
-use Rattle.steps.proofs.RunLaws.{onward_go, onward_stop}
-use Rattle.decryption.specs.Decrypt.{new}
-use Rattle.subset.specs.Words.{epoch_length, count_at, value_at, arrival_at, contributor, drop_from, record_at}
+use Rattle.steps.specs.Steps.{Out}
+use Rattle.steps.specs.Runs.{onward, Left, leaves}
+use Rattle.subset.specs.Words.{epoch_length, count_at, value_at, arrival_at, contributor, drop_from}
 use Rattle.epochwords.specs.declared.SubsetHandlingStrategy.{SubsetHandlingStrategy}
-use Rattle.epochwords.specs.declared.SubsetHandlingStrategy.TheVariants.{Incremental, AllAtEnd}
 use Rattle.epochwords.specs.Shape.{Listed}
-use Rattle.epochwords.specs.Words.{accept, DecryptionState, store_entry, store_decryption, entry_complete}
-use Rattle.epoch.specs.Epoch.{handles_now, subset_complete, send_decryption_share, finish_from, handle_contribution, handle_from, handle_contributions, process_subset}
+use Rattle.epochwords.specs.Words.{accept, DecryptionState, store_decryption}
+use Rattle.epoch.specs.Epoch.{handle_contribution, handle_from}
 use Rattle.steps.proofs.Logic.{anything}
 use Rattle.steps.proofs.StateKept.{still}
 use Rattle.epoch.proofs.Walk.{Handles, holds, handles_hold, contribution_keeps, handle_from_keeps}
-use Rattle.epochwords.proofs.EntryCode.{epoch_small, record_inside}
 use Rattle.epochwords.proofs.EntryStored.{accept_word, store_low, store_subset}
-
--- the record at which the i-th contribution's proposer stands and that proposer's own are inside the epoch, which is small
-pub records_inside : (n i k : ℕ) (w : List ℕ) → n ≤ 16 → i < k → k ≤ n → ((j : ℕ) → j < n → contributor n w j < n)
-    → (record_at n i 7 < epoch_length n) × (record_at n (contributor n w i) 7 < epoch_length n) × (epoch_length n ≤ 400)
-records_inside n i k w few below most who =
-    let here : i < n = omega arith in
-    ((record_inside n i few here).0, (record_inside n (contributor n w i) few (who i here)).0, epoch_small n few)
 
 -- THE LIST of contributions stays while they are handled
 module _ (n : ℕ) where
@@ -89,24 +78,12 @@ module _ (net : NetworkInfo) (strategy : SubsetHandlingStrategy) (encrypted : Bo
         → left {A = Unit {0}} s (Err f) q x ≡ leaves o (handle_from net strategy encrypted (m - i) i w t)
     each_stops f e = onward_err s q _ rest x o f e ∙ ap (leaves o) (sym (each_turn h p value who what))
 
-  pub each_done : m ≤ i → handle_from net strategy encrypted (m - i) i w t ≡ ends (going tt) w t
-  unfolding handle_from
-  each_done h =
-      let e : m - i ≡ 0 = omega arith in
-      rw e
-
 -- THE LIST IS CUT: one entry more
 module _ (n m i : ℕ) (w : List ℕ) where
   pub cut_turn : i < m → drop_from n (m - i) i w ≡ drop_from n (m - (i + 1)) (i + 1) (set (set w (value_at n (contributor n w i)) 0) (arrival_at n i) 0)
   unfolding drop_from
   cut_turn h =
       let e : m - i ≡ suc (m - (i + 1)) = omega arith in
-      rw e
-
-  pub cut_done : m ≤ i → drop_from n (m - i) i w ≡ w
-  unfolding drop_from
-  cut_done h =
-      let e : m - i ≡ 0 = omega arith in
       rw e
 
 -- a word stays below n where a number below n is written

@@ -221,6 +221,7 @@ fn subset_complete(epoch: &mut [u64])
 }
 
 // A fault 2 of each sender of a share, by rising sender.
+#[tactic(auto, using(crate::proofs::FinishCode::unexpected_turn), unfolding(crate::specs::Epoch::unexpected_from, steps::specs::Steps::put_all))]
 fn unexpected_from(n: usize, td: &ThresholdDecrypt, writer: &mut Writer)
     requires { n ≤ 16 }
     ensures step { out_of writer.new ≡ put_all (out_of writer.old) (unexpected_from n 0 td.now) }
@@ -264,6 +265,7 @@ fn finish_at(epoch: &mut [u64], net: NetworkInfo, p: usize, writer: &mut Writer)
 }
 
 // The end of `Done`, by rising proposer.
+#[tactic(auto, using(crate::proofs::FinishCode::finish_turn), unfolding(crate::specs::Epoch::finish_from, steps::specs::Steps::put_all))]
 fn finish(epoch: &mut [u64], net: NetworkInfo, writer: &mut Writer)
     requires { EpochWords net.num_nodes epoch.old }
     ensures run { (t : Tape) → left epoch.new (Ok tt) t writer.new ≡ leaves (out_of writer.old) (finish_from net net.num_nodes 0 epoch.old t) }
@@ -317,6 +319,7 @@ fn value_of(epoch: &[u64], n: usize, p: usize) -> u64
 }
 
 // Handles the contributions of the list, in the order of their arrival.
+#[tactic(auto, unfolding(crate::specs::Epoch::handle_from, steps::specs::Steps::put_all))]
 fn handle_each(
     epoch: &mut [u64],
     net: NetworkInfo,
@@ -350,6 +353,7 @@ fn drop_contribution(epoch: &mut [u64], n: usize, i: usize)
 }
 
 // Cuts the list of contributions to its first k.
+#[tactic(auto, unfolding(crate::specs::Epoch::first_contributions, subset::specs::Words::drop_from))]
 fn first_contributions(epoch: &mut [u64], n: usize, k: usize)
     requires { EpochWords n epoch.old × Listed n epoch.old }
     ensures { epoch.new ≡ first_contributions n k epoch.old }
@@ -481,6 +485,7 @@ fn hand_up(
 }
 
 // A proposal or a message goes to the subset, unless that has completed.
+#[tactic(auto, using(crate::proofs::CallCode::subset_onward, steps::proofs::RunLaws::leaves_before), unfolding(crate::specs::Epoch::call_subset, steps::specs::Runs::onward, steps::specs::Runs::onward_as, steps::specs::Steps::put_all))]
 fn call_subset(
     epoch: &mut [u64],
     net: NetworkInfo,

