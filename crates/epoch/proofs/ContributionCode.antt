@@ -1,11 +1,11 @@
 -- The list of contributions, and handling them: what the code leaves. Assumes nothing.
-use Prim.Native.Nat.{ℕ, zero, suc, ◌+◌, ◌-◌, ◌<◌, ◌≤◌}
+use Prim.Native.Nat.{ℕ, suc, ◌+◌, ◌-◌, ◌<◌}
 use native.Mathlib.Omega.{arith}
 use mathlib.Core.Path.{◌≡◌, refl, sym, ap, ◌∙◌}
-use mathlib.Core.List.{List, [], ◌∷◌, ◌++◌, append-nil}
+use mathlib.Core.List.{List}
 use mathlib.Core.Bool.{Bool, true, false}
-use lib.ListN.{length, get_or, set, drop, replicate, length-replicate}
-use lib.Seq.{get_or-set_same, get_or-set_other, set_out, set_at, drop-cons, drop-length}
+use lib.ListN.{length, get_or, set}
+use lib.Seq.{get_or-set_same, get_or-set_other, set_out}
 use lib.Dec.{eqb, ltb}
 use borrow.Author.Tests.{eqb-true, eqb-false, ltb-true, ltb-false}
 use Rattle.std.specs.Prelude.{Ok, Err}
@@ -18,7 +18,7 @@ use Rattle.network.specs.declared.network_info.NetworkInfo.{NetworkInfo}
 use Rattle.steps.specs.Answers.{Tape}
 use Rattle.steps.specs.Steps.{Out}
 use Rattle.steps.specs.Runs.{onward, Left, leaves}
-use Rattle.subset.specs.Words.{epoch_length, count_at, value_at, arrival_at, contributor, drop_from}
+use Rattle.subset.specs.Words.{count_at, value_at, arrival_at, contributor, drop_from}
 use Rattle.epochwords.specs.declared.SubsetHandlingStrategy.{SubsetHandlingStrategy}
 use Rattle.epochwords.specs.Shape.{Listed}
 use Rattle.epochwords.specs.Words.{accept, DecryptionState, store_decryption}
