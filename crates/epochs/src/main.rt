@@ -26,7 +26,7 @@ use epochwords::SubsetHandlingStrategy;
 use epochwords::batch::{is_ready, output_batch};
 use epochwords::range::epoch_in_range;
 use epochwords::words::{STATUS_AT, STATUS_VACANT};
-use lines::{ended, first_of, line_ends, number, numbers};
+use lines::{OtherLine, first_of, kind_of, line_ends, number, read_numbers, without_cut};
 use network::network_info::NetworkInfo;
 use std::alloc::Global;
 use std::io::{self, BufWriter, Read, Write};
@@ -55,10 +55,6 @@ enum Kind {
     Propose,
     Message,
 }
-
-// The first byte of a line that asks for nothing.
-#[derive(Clone, Copy, Debug, PartialEq, Eq)]
-struct OtherLine(u8);
 
 impl TryFrom<u8> for Kind {
     type Error = OtherLine;
@@ -120,13 +116,6 @@ struct Call {
     proposer: usize,
     message: Option<MessageContent>,
     ghost nodes: { (sender < how.net.num_nodes) × (proposer < how.net.num_nodes) },
-}
-
-// What the lines so far give a call: the network, if it is one, and the epoch's words.
-#[derive(Clone, Copy)]
-struct Before {
-    how: Option<Setting>,
-    words: [u64; 128],
 }
 
 // Why a call ends before it is done.
@@ -336,7 +325,7 @@ fn show_words<W: Write>(out: &mut W, words: &[u64; 128]) -> io::Result<()> {
 
 // How many words a counted step takes, if its table can have them.
 fn words_of(counted: Step) -> Option<usize>
-    ensures { IfSome result (λ m. 4 ≤ m) }
+    ensures { IfSome result (λ m. (4 ≤ m) × (m ≤ 256)) }
 {
     let messages = counted.messages;
     let faults = counted.faults;
@@ -362,56 +351,6 @@ fn begin(counted: Step, table: &mut [u64], epoch: u64) -> Step
     step
 }
 
-// The second run, which writes what the first has counted.
-fn write<W: Write>(
-    out: &mut W,
-    alloc: Global,
-    before: [u64; 128],
-    call: Call,
-    answers: &[u64],
-    counted: Step,
-) -> io::Result<()> {
-    let Some(length) = words_of(counted) else {
-        return show(out, STEP_TABLE_TOO_SHORT, &[]);
-    };
-    let mut table = vec![in alloc; 0; length]?;
-    let mut epoch = before;
-    let mut writer = Writer {
-        step: begin(counted, &mut table, call.epoch),
-        words: &mut table,
-    };
-    let ran = run_in(&mut epoch, call, answers, &mut writer);
-    show(out, ran.map_or_else(u64::from, |_| SUCCESS), &table)?;
-    if ran != Ok(true) {
-        show_words(out, &epoch)?;
-    }
-    Ok(())
-}
-
-// Both runs of a call. One that fails has no second, and its step is an empty one.
-fn call_twice<W: Write>(
-    out: &mut W,
-    alloc: Global,
-    before: [u64; 128],
-    call: Call,
-    answers: &[u64],
-) -> io::Result<()> {
-    let mut epoch = before;
-    let mut counting = Writer {
-        step: Step::counting(),
-        words: &mut [],
-    };
-    let ran = run_in(&mut epoch, call, answers, &mut counting);
-    let counted = counting.step;
-    let Err(end) = ran else {
-        return write(out, alloc, before, call, answers, counted);
-    };
-    let mut table = [0u64; 4];
-    Step::counting().header(&mut table, call.epoch);
-    show(out, u64::from(end), &table)?;
-    show_words(out, &epoch)
-}
-
 // The words of a line that has them by index.
 fn sparse(given: &[u64]) -> [u64; 128] {
     let mut words = [0u64; 128];
@@ -424,36 +363,106 @@ fn sparse(given: &[u64]) -> [u64; 128] {
     words
 }
 
-// One line of the input. Only a network takes a number that the end of the input cuts off.
-fn line<W: Write>(out: &mut W, alloc: Global, line: &[u8], before: &mut Before) -> io::Result<()> {
-    let Some(first) = line.first() else {
-        return Ok(());
-    };
-    let Ok(kind) = Kind::try_from(*first) else {
-        return Ok(());
-    };
-    let whole = if kind == Kind::Network {
-        line
-    } else {
-        ended(line)
-    };
-    let given = numbers(alloc, whole, MOST_NUMBERS)?;
-    match kind {
-        Kind::Network => before.how = Setting::try_from(first_of(&given)).ok(),
-        Kind::Words => before.words = sparse(&given),
-        Kind::Propose => {
-            if let (Some(how), [epoch, current, answers @ ..]) = (before.how, given.as_slice()) {
-                let call = Call::propose(how, *epoch, *current);
-                call_twice(out, alloc, before.words, call, answers)?;
-            }
+// What the lines so far give a call, the network, if it is one, and the epoch's words; and where calls are written.
+#[derive(Drop)]
+struct Epochs<'a, W> {
+    alloc: Global,
+    out: &'a mut W,
+    how: Option<Setting>,
+    words: [u64; 128],
+}
+
+impl<W: Write> Epochs<'_, W> {
+    // The second run, which writes what the first has counted.
+    fn write(&mut self, call: Call, answers: &[u64], counted: Step) -> io::Result<()> {
+        let Some(length) = words_of(counted) else {
+            return show(self.out, STEP_TABLE_TOO_SHORT, &[]);
+        };
+        let mut table = vec![in self.alloc; 0; length]?;
+        let mut words = self.words;
+        let mut writer = Writer {
+            step: begin(counted, &mut table, call.epoch),
+            words: &mut table,
+        };
+        let ran = run_in(&mut words, call, answers, &mut writer);
+        show(self.out, ran.map_or_else(u64::from, |_| SUCCESS), &table)?;
+        if ran != Ok(true) {
+            show_words(self.out, &words)?;
         }
-        Kind::Message => {
-            if let (Some(how), Some((numbers, answers))) = (before.how, given.split_first_chunk()) {
-                if let Some(call) = Call::message(how, *numbers) {
-                    call_twice(out, alloc, before.words, call, answers)?;
-                }
+        Ok(())
+    }
+
+    // Both runs of a call. One that fails has no second, and its step is an empty one.
+    fn call(&mut self, call: Call, answers: &[u64]) -> io::Result<()> {
+        let mut words = self.words;
+        let mut counting = Writer {
+            step: Step::counting(),
+            words: &mut [],
+        };
+        let ran = run_in(&mut words, call, answers, &mut counting);
+        let counted = counting.step;
+        let Err(end) = ran else {
+            return self.write(call, answers, counted);
+        };
+        let mut table = [0u64; 4];
+        Step::counting().header(&mut table, call.epoch);
+        show(self.out, u64::from(end), &table)?;
+        show_words(self.out, &words)
+    }
+
+    fn propose(&mut self, given: &[u64]) -> io::Result<()> {
+        match (self.how, given) {
+            (Some(how), [epoch, current, answers @ ..]) => {
+                self.call(Call::propose(how, *epoch, *current), answers)
             }
+            _ => Ok(()),
         }
+    }
+
+    fn message(&mut self, given: &[u64]) -> io::Result<()> {
+        let Some(how) = self.how else {
+            return Ok(());
+        };
+        let Some((numbers, answers)) = given.split_first_chunk() else {
+            return Ok(());
+        };
+        match Call::message(how, *numbers) {
+            Some(call) => self.call(call, answers),
+            None => Ok(()),
+        }
+    }
+
+    fn line(&mut self, line: &[u8]) -> io::Result<()> {
+        let Some(kind) = kind_of(line) else {
+            return Ok(());
+        };
+        // Only a network takes a number that the end of the input cuts off.
+        let whole = if kind == Kind::Network {
+            line
+        } else {
+            without_cut(line)
+        };
+        let given = read_numbers(self.alloc, whole, MOST_NUMBERS)?;
+        match kind {
+            Kind::Network => self.how = Setting::try_from(first_of(&given)).ok(),
+            Kind::Words => self.words = sparse(&given),
+            Kind::Propose => self.propose(&given)?,
+            Kind::Message => self.message(&given)?,
+        }
+        Ok(())
+    }
+}
+
+// The lines of the input, in order.
+fn each_line<W: Write>(alloc: Global, text: &[u8], out: &mut W) -> io::Result<()> {
+    let mut epochs = Epochs {
+        alloc,
+        out,
+        how: None,
+        words: [0; 128],
+    };
+    for line in text.split_inclusive(|b| *b == b'\n') {
+        epochs.line(line)?;
     }
     Ok(())
 }
@@ -462,12 +471,6 @@ fn main(rt: HostRuntime) -> io::Result<()> {
     let mut text = Vec::new(rt.alloc());
     rt.reader().take(MOST_BYTES).read_to_end(&mut text)?;
     let mut out = BufWriter::new(rt.alloc(), io::writer(&rt))?;
-    let mut before = Before {
-        how: None,
-        words: [0; 128],
-    };
-    for read in text.split_inclusive(|b| *b == b'\n') {
-        line(&mut out, rt.alloc(), read, &mut before)?;
-    }
+    each_line(rt.alloc(), &text, &mut out)?;
     out.flush()
 }

@@ -1,7 +1,7 @@
 // The text that the test programs read and write: lines of decimal numbers.
 #![tactic(auto)]
 
-ghost use Rattle.std.specs.Prelude.{◌≡◌, ◌+◌, ◌*◌, ◌-◌, ◌<◌, ◌≤◌, ◌^◌, ℕ, length, vec_len, slice_index, get_or, false, true, IfOk, OnOk, ◌++◌, codes};
+ghost use Rattle.std.specs.Prelude.{◌≡◌, ◌+◌, ◌*◌, ◌-◌, ◌<◌, ◌≤◌, ◌^◌, ℕ, length, vec_len, slice_index, slice_get, get_or, false, true, Some, Ok, IsNone, IfSome, IfOk, OnOk, ◌++◌, codes};
 ghost use Rattle.std.specs.Char.{is_ascii_digit};
 ghost use Rattle.std.specs.Fmt.{decimal};
 ghost use Rattle.std.specs.Io.KnownBytes.{Appends};
@@ -30,6 +30,19 @@ pub fn number<W: Write>(out: &mut W, n: u64) -> io::Result<()>
     write!(out, " {n}")
 }
 
+// The first byte of a line that is of no kind.
+#[derive(Clone, Copy, Debug, PartialEq, Eq)]
+pub struct OtherLine(pub u8);
+
+// The kind of a line, which its first byte says, if it is of one.
+pub fn kind_of<K: TryFrom<u8, Error = OtherLine>>(line: &[u8]) -> Option<K>
+    ensures first { IfSome result (λ kind. (b : ℕ) × (slice_get line.now 0 ≡ Some b) × K.try_from_gives b (Ok kind)) }
+    ensures other { IsNone result → IfSome (slice_get line.now 0) (λ b. (e : OtherLine) × K.try_from_gives b (Err e)) }
+{
+    let first = line.first()?;
+    K::try_from(*first).ok()
+}
+
 // A number with one more digit. One that would not fit in a word stays.
 fn with_digit(value: u64, digit: u8) -> u64
     ensures fits { value * 10 + (digit - 48) < 2 ^ 64 → result ≡ value * 10 + (digit - 48) }
@@ -53,10 +66,10 @@ fn digits_at(text: &[u8]) -> usize
         .map_or(text.len(), |others| others + 1)
 }
 
-// The numbers in a text, in order: each run of digits is one.
+// The numbers in what is left of a line, in order: each run of digits is one.
 #[derive(Drop)]
-struct NumbersIn<'a> {
-    rest: &'a [u8],
+pub struct NumbersIn<'a> {
+    pub rest: &'a [u8],
 }
 
 impl Iterator for NumbersIn<'_> {
@@ -78,7 +91,7 @@ impl Iterator for NumbersIn<'_> {
 }
 
 // A line without the number that its end cuts off, which it has where no newline ends it.
-pub fn ended(line: &[u8]) -> &[u8]
+pub fn without_cut(line: &[u8]) -> &[u8]
     ensures starts { StartsWith line.now result.now }
     ensures ends { (i : ℕ) → i + 1 ≡ length result.now → is_ascii_digit (slice_index line.now i) ≡ false }
     ensures cut { (i : ℕ) → length result.now ≤ i → i < length line.now → is_ascii_digit (slice_index line.now i) ≡ true }
@@ -89,11 +102,17 @@ pub fn ended(line: &[u8]) -> &[u8]
     }
 }
 
+pub fn numbers_in(line: &[u8]) -> NumbersIn<'_>
+    ensures { result.rest.now ≡ line.now }
+{
+    NumbersIn { rest: line }
+}
+
 // The numbers of a line, at most so many.
-pub fn numbers(alloc: Global, line: &[u8], most: usize) -> Result<Vec<u64>, AllocError>
+pub fn read_numbers(alloc: Global, line: &[u8], most: usize) -> Result<Vec<u64>, AllocError>
     ensures { IfOk result (λ ns. vec_len ns ≤ most) }
 {
-    NumbersIn { rest: line }.take(most).collect(alloc)
+    numbers_in(line).take(most).collect(alloc)
 }
 
 // The first of some numbers; those that are missing are 0.
@@ -115,14 +134,14 @@ mod tests {
     fn reads_numbers(rt: HostRuntime) -> Result<(), Fail> {
         // The third is one more than fits, and loses its last digit.
         let line = b"m 12 0 18446744073709551616x7";
-        let read = numbers(rt.alloc(), line, 256)?;
+        let read = read_numbers(rt.alloc(), line, 256)?;
         assert_eq!(rt;
             read.as_slice(),
             [12, 0, 1_844_674_407_370_955_161, 7].as_slice()
         );
-        let two = numbers(rt.alloc(), line, 2)?;
+        let two = read_numbers(rt.alloc(), line, 2)?;
         assert_eq!(rt; two.as_slice(), [12, 0].as_slice());
-        let whole = numbers(rt.alloc(), ended(line), 256)?;
+        let whole = read_numbers(rt.alloc(), without_cut(line), 256)?;
         assert_eq!(rt;
             whole.as_slice(),
             [12, 0, 1_844_674_407_370_955_161].as_slice()

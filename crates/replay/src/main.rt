@@ -13,9 +13,10 @@
 // many as the state has words, then words that it did not touch: eight more are lent), q EPOCH INPUT RECEIVED FAULTS DIGEST SCRATCH.
 #![tactic(auto)]
 
-ghost use Rattle.std.specs.Prelude.{◌≤◌, length};
+ghost use Rattle.std.specs.Prelude.{◌≤◌, vec_len};
+ghost use Rattle.std.specs.Io.{StartsWith};
 
-use lines::{ended, first_of, line_ends, number, numbers};
+use lines::{OtherLine, first_of, kind_of, line_ends, number, read_numbers, without_cut};
 use std::alloc::{AllocError, Global};
 use std::io::{self, BufRead, BufReader, BufWriter, Read, Write};
 use steps::numbers::SUCCESS;
@@ -28,6 +29,9 @@ const MOST_BYTES: u64 = 65_536;
 const MOST_NUMBERS: usize = 4_112;
 
 const MOST_RECORDS: usize = 1_553;
+
+// Of a state.
+const MOST_WORDS: usize = 6_416;
 
 // The words that a call is lent, but for the answers' and those of a state that there is.
 const FILL: u64 = 0x1234_5678_9abc_def0;
@@ -46,10 +50,6 @@ enum Kind {
     Skip,
 }
 
-// The first byte of a line that asks for nothing.
-#[derive(Clone, Copy, Debug, PartialEq, Eq)]
-struct OtherLine(u8);
-
 impl TryFrom<u8> for Kind {
     type Error = OtherLine;
 
@@ -65,15 +65,21 @@ impl TryFrom<u8> for Kind {
 }
 
 // The length of a state with these numbers; any other where they are out of range.
-fn state_length(nodes: u64, ahead: u64) -> usize {
+fn state_length(nodes: u64, ahead: u64) -> usize
+    ensures { result ≤ 6416 }
+{
     match (nodes, ahead) {
-        (1..=16, 0..=15) => state::range::state_length(nodes as usize, ahead as usize),
+        (1..=16, 0..=15) => {
+            state::range::state_length(nodes as usize, ahead as usize).min(MOST_WORDS)
+        }
         _ => 16,
     }
 }
 
 // The words of a step table of so many records, of those that there are.
-fn step_length(records: u64) -> usize {
+fn step_length(records: u64) -> usize
+    ensures { result ≤ 6212 }
+{
     (records as usize).min(MOST_RECORDS) * 4
 }
 
@@ -86,7 +92,9 @@ fn digest(words: &[u64]) -> u64 {
 }
 
 // The words of a step table up to the last that was written.
-fn written(step: &[u64]) -> &[u64] {
+fn written(step: &[u64]) -> &[u64]
+    ensures { StartsWith step.now result.now }
+{
     match step.iter().rposition(|word| *word != FILL) {
         Some(last) => &step[..last + 1],
         None => &[],
@@ -134,6 +142,7 @@ struct Replay<'a, W> {
     alloc: Global,
     out: &'a mut W,
     state: Vec<u64>,
+    ghost size: { vec_len state ≤ 6416 },
 }
 
 impl<W: Write> Replay<'_, W> {
@@ -235,19 +244,16 @@ impl<W: Write> Replay<'_, W> {
     }
 
     fn line(&mut self, text: &[u8]) -> io::Result<()> {
-        let Some(first) = text.first() else {
-            return Ok(());
-        };
-        let Ok(kind) = Kind::try_from(*first) else {
+        let Some(kind) = kind_of(text) else {
             return Ok(());
         };
         // Only a create takes a number that the end of the input cuts off.
         let whole = if kind == Kind::Create {
             text
         } else {
-            ended(text)
+            without_cut(text)
         };
-        let given = numbers(self.alloc, whole, MOST_NUMBERS)?;
+        let given = read_numbers(self.alloc, whole, MOST_NUMBERS)?;
         match kind {
             Kind::Create => self.create(first_of(&given)),
             Kind::Propose => self.propose(&given),

@@ -15,7 +15,7 @@ ghost use Rattle.std.specs.Prelude.{◌≤◌, ◌<◌};
 ghost use Rattle.network.specs.Network.{Network};
 
 use decryption::ThresholdDecrypt;
-use lines::{ended, first_of, line_ends, number, numbers, say};
+use lines::{OtherLine, first_of, kind_of, line_ends, number, read_numbers, say, without_cut};
 use network::network_info::NetworkInfo;
 use std::alloc::Global;
 use std::fmt;
@@ -38,10 +38,6 @@ enum Kind {
     Instance,
     Share,
 }
-
-// The first byte of a line that asks for nothing.
-#[derive(Clone, Copy, Debug, PartialEq, Eq)]
-struct OtherLine(u8);
 
 impl TryFrom<u8> for Kind {
     type Error = OtherLine;
@@ -140,33 +136,6 @@ fn begin(counted: Step, words: &mut [u64], epoch: u64) -> Step {
     step
 }
 
-// An answer's parts as a step of epoch 3: first counted, then written. A refused one writes nothing, a failed one a header.
-fn parts<W: Write>(out: &mut W, answers: &[u64], kind: u64, who: usize) -> io::Result<()> {
-    if !answers::table_ok(4, answers) {
-        return writeln!(out, "  reply {ANSWERS_MALFORMED}");
-    }
-    let mut words = [9u64; 20];
-    let mut counting = Writer {
-        step: Step::counting(),
-        words: &mut words[..0],
-    };
-    let told = hear(answers, kind, who, &mut counting);
-    let counted = counting.step;
-    writeln!(out, "  {told}")?;
-    match told {
-        Told::Refused => {}
-        Told::No => Step::counting().header(&mut words, 3),
-        Told::Output(_) => {
-            let mut writer = Writer {
-                step: begin(counted, &mut words, 3),
-                words: &mut words,
-            };
-            hear(answers, kind, who, &mut writer);
-        }
-    }
-    show(out, &words)
-}
-
 fn show_result<W: Write>(out: &mut W, handled: Result<Option<u64>, Stop>) -> io::Result<()> {
     match handled {
         Ok(None) => writeln!(out, "  nothing"),
@@ -187,55 +156,6 @@ fn network() -> NetworkInfo
     }
 }
 
-// A share of a sender for proposer 0, at an observer of four nodes. The instance stays as that leaves it.
-fn share<W: Write>(
-    out: &mut W,
-    td: &mut ThresholdDecrypt,
-    sender: usize,
-    handle: u64,
-    answers: &[u64],
-) -> io::Result<()>
-    requires { sender < 4 }
-{
-    let mut before = *td;
-    let net = network();
-    let mut words = [9u64; 20];
-    let mut counting = Writer {
-        step: Step::counting(),
-        words: &mut words[..0],
-    };
-    let handled = td.handle_message(
-        net,
-        0,
-        sender,
-        handle,
-        &mut reader(answers),
-        &mut counting,
-    );
-    let counted = counting.step;
-    show_result(out, handled)?;
-    match handled {
-        Err(Stop::NotNext) => {}
-        Err(Stop::Failed(_)) => Step::counting().header(&mut words, 0),
-        Ok(_) => {
-            let mut writer = Writer {
-                step: begin(counted, &mut words, 0),
-                words: &mut words,
-            };
-            let again = before.handle_message(
-                net,
-                0,
-                sender,
-                handle,
-                &mut reader(answers),
-                &mut writer,
-            );
-            let _ = again;
-        }
-    }
-    show(out, &words)
-}
-
 // An instance of proposer 0 with a ciphertext and shares by sender. It has sent its own share.
 fn instance(given: &[u64]) -> ThresholdDecrypt {
     let (ciphertext, shares) = given.split_first().unwrap_or((&0, &[]));
@@ -247,45 +167,117 @@ fn instance(given: &[u64]) -> ThresholdDecrypt {
     }
 }
 
-// One line of the input. Only an instance takes a number that the end of the input cuts off.
-fn line<W: Write>(
-    out: &mut W,
+// The instance that gets shares, and where lines are written.
+#[derive(Drop)]
+struct Tables<'a, W> {
     alloc: Global,
-    line: &[u8],
-    td: &mut ThresholdDecrypt,
-) -> io::Result<()> {
-    let [first, _, text @ ..] = line else {
-        return Ok(());
-    };
-    let Ok(kind) = Kind::try_from(*first) else {
-        return Ok(());
-    };
-    match kind {
-        Kind::Text => say(out, text),
-        Kind::Instance => {
-            *td = instance(&numbers(alloc, line, MOST_NUMBERS)?);
-            Ok(())
+    out: &'a mut W,
+    td: ThresholdDecrypt,
+}
+
+impl<W: Write> Tables<'_, W> {
+    // An answer's parts as a step of epoch 3: first counted, then written. A refused one writes nothing, a failed one a header.
+    fn parts(&mut self, kind: u64, who: usize, answers: &[u64]) -> io::Result<()> {
+        if !answers::table_ok(4, answers) {
+            return writeln!(self.out, "  reply {ANSWERS_MALFORMED}");
         }
-        Kind::Parts => match numbers(alloc, ended(line), MOST_NUMBERS)?.as_slice() {
-            [kind, who, answers @ ..] => parts(out, answers, *kind, *who as usize),
-            _ => Ok(()),
-        },
-        Kind::Share => match numbers(alloc, ended(line), MOST_NUMBERS)?.as_slice() {
-            [sender @ 0..4, handle, answers @ ..] => {
-                share(out, td, *sender as usize, *handle, answers)
+        let mut words = [9u64; 20];
+        let mut counting = Writer {
+            step: Step::counting(),
+            words: &mut [],
+        };
+        let told = hear(answers, kind, who, &mut counting);
+        let counted = counting.step;
+        writeln!(self.out, "  {told}")?;
+        match told {
+            Told::Refused => {}
+            Told::No => Step::counting().header(&mut words, 3),
+            Told::Output(_) => {
+                let mut writer = Writer {
+                    step: begin(counted, &mut words, 3),
+                    words: &mut words,
+                };
+                hear(answers, kind, who, &mut writer);
+            }
+        }
+        show(self.out, &words)
+    }
+
+    // A share of a sender for proposer 0, at an observer of four nodes. The instance stays as that leaves it.
+    fn share(&mut self, sender: usize, handle: u64, answers: &[u64]) -> io::Result<()>
+        requires { sender < 4 }
+    {
+        let mut before = self.td;
+        let net = network();
+        let mut counting = Writer {
+            step: Step::counting(),
+            words: &mut [],
+        };
+        let first = &mut reader(answers);
+        let handled = self.td.handle_message(net, 0, sender, handle, first, &mut counting);
+        let counted = counting.step;
+        show_result(self.out, handled)?;
+        let mut words = [9u64; 20];
+        match handled {
+            Err(Stop::NotNext) => {}
+            Err(Stop::Failed(_)) => Step::counting().header(&mut words, 0),
+            Ok(_) => {
+                let mut writer = Writer {
+                    step: begin(counted, &mut words, 0),
+                    words: &mut words,
+                };
+                let second = &mut reader(answers);
+                let _ = before.handle_message(net, 0, sender, handle, second, &mut writer);
+            }
+        }
+        show(self.out, &words)
+    }
+
+    fn line(&mut self, line: &[u8]) -> io::Result<()> {
+        let Some(kind) = kind_of(line) else {
+            return Ok(());
+        };
+        if kind == Kind::Text {
+            return say(self.out, line.get(2..).unwrap_or(&[]));
+        }
+        // Only an instance takes a number that the end of the input cuts off.
+        let whole = if kind == Kind::Instance {
+            line
+        } else {
+            without_cut(line)
+        };
+        let given = read_numbers(self.alloc, whole, MOST_NUMBERS)?;
+        match (kind, given.as_slice()) {
+            (Kind::Instance, given) => {
+                self.td = instance(given);
+                Ok(())
+            }
+            (Kind::Parts, [kind, who, answers @ ..]) => self.parts(*kind, *who as usize, answers),
+            (Kind::Share, [sender @ 0..4, handle, answers @ ..]) => {
+                self.share(*sender as usize, *handle, answers)
             }
             _ => Ok(()),
-        },
+        }
     }
+}
+
+// The lines of the input, in order.
+fn each_line<W: Write>(alloc: Global, text: &[u8], out: &mut W) -> io::Result<()> {
+    let mut tables = Tables {
+        alloc,
+        out,
+        td: ThresholdDecrypt::new(),
+    };
+    for line in text.split_inclusive(|b| *b == b'\n') {
+        tables.line(line)?;
+    }
+    Ok(())
 }
 
 fn main(rt: HostRuntime) -> io::Result<()> {
     let mut text = Vec::new(rt.alloc());
     rt.reader().take(MOST_BYTES).read_to_end(&mut text)?;
     let mut out = BufWriter::new(rt.alloc(), io::writer(&rt))?;
-    let mut td = ThresholdDecrypt::new();
-    for read in text.split_inclusive(|b| *b == b'\n') {
-        line(&mut out, rt.alloc(), read, &mut td)?;
-    }
+    each_line(rt.alloc(), &text, &mut out)?;
     out.flush()
 }
