@@ -1,5 +1,4 @@
 -- What is proved of the definitions, for this crate's proofs and for those above it.
-pub mod Stops
 pub mod ShareCode
 pub mod CycleCode
 pub mod MessageCode

@@ -4,7 +4,8 @@ use Prim.Native.Nat.{ℕ}
 use mathlib.Core.Path.{◌≡◌, refl, sym, ap, ◌∙◌}
 use mathlib.Core.List.{List, ◌∷◌, ◌++◌}
 use mathlib.Core.Bool.{Bool, true, false, true≢false}
-use Rattle.std.specs.Prelude.{Result, Ok, Err}
+use Rattle.std.specs.Prelude.{Result, Ok, Err, IsErrAnd}
+use Rattle.std.proofs.lemmas.Result.{err_from_is_err_and}
 use Rattle.steps.specs.declared.kinds.Stop.{Stop}
 use Rattle.steps.specs.declared.kinds.Stop.TheVariants.{NotNext, Failed}
 use Rattle.steps.specs.Answers.{Answer}
@@ -73,6 +74,10 @@ module _ {S A : Type 0} (q : Asked) (s : S) (k : ℕ → ℕ → Tape → Run S 
   pub heard_err_left : (f : Stop) → told (Err f) p ≡ heard_in q → (w : Writer) → left {S = S} {A = A} s (Err f) p w ≡ leaves (out_of w) (heard q s k)
   unfolding put_all
   heard_err_left f e w = ap (leaves (out_of w)) (ends_there q s k p f e)
+
+-- what a `?` hands up where its call stopped: r is the result, f the error of the call
+pub stops : {A E : Type 0} (r : Result A E) (f : E) → IsErrAnd r (λ e. e ≡ f) → r ≡ Err f
+stops r f h = let p = err_from_is_err_and r h in p.1 ∙ ap Err p.2
 
 -- entries before a run's own
 pub before_left : {S A : Type 0} (o : Out) (l : List Entry) (r : Run S A) (d : Left S A) → d ≡ leaves (put_all o l) r → d ≡ leaves o (before l r)

@@ -1,8 +1,7 @@
 -- `combine` meets its contract, by what the answer told. Assumes nothing.
 use borrow.Author.Tests.{eq-eqb, ne_eqb}
-use Rattle.decryption.proofs.Stops.{stops}
 use Rattle.decryption.specs.Decrypt.{combine}
-use Rattle.steps.proofs.LentRuns.{heard_ok, heard_err}
+use Rattle.steps.proofs.LentRuns.{heard_ok, heard_err, stops}
 use Rattle.decryption.proofs.combine.Goals as goal
 
 pub returns-in_err-decrypted : goal.returns-in_err-decrypted

@@ -1,7 +1,7 @@
 -- `message_checks` meets its contract, test by test. Assumes nothing.
+use Rattle.steps.proofs.LentRuns.{stops}
 use mathlib.Core.Path.{sym, ◌∙◌}
 use native.Mathlib.Omega.{arith}
-use Rattle.std.proofs.lemmas.Result.{err_from_is_err_and}
 use Rattle.state.proofs.WordsCode.{header_inside}
 use Rattle.state.proofs.RangeCode.{ok_words}
 use Rattle.calls.specs.declared.refusal.Refusal.TheVariants.{UnknownSender, MessageMalformed}
@@ -9,7 +9,7 @@ use Rattle.calls.proofs.ChecksApart.{then_passed, then_refused, first_ok, messag
 use Rattle.calls.proofs.checks.message_checks.Goals as goal
 
 pub returns-in_err-first_checks : goal.returns-in_err-first_checks
-returns-in_err-first_checks c = let p = err_from_is_err_and c.from_residual.result c.from_residual.ensures.1 in rw (p.1, p.2) (then_refused _ _ _ c.in_err-first_checks.ensures)
+returns-in_err-first_checks c = rw (stops _ _ c.from_residual.ensures.1) (then_refused _ _ _ c.in_err-first_checks.ensures)
 
 pub bounds-state-1 : goal.bounds-state-1
 bounds-state-1 c = omega (arith, (header_inside c.args.state.now (ok_words c.args.state.now (first_ok c.args.state.now c.args.scratch c.args.answers.now (sym c.in_ok-first_checks.ensures)))))

@@ -3,8 +3,7 @@
 use mathlib.Core.Path.{sym, ap, ◌∙◌}
 use Rattle.steps.specs.Runs.{leaves}
 use Rattle.steps.specs.Steps.{put_all}
-use Rattle.steps.proofs.LentRuns.{onward_ok, onward_err}
-use Rattle.decryption.proofs.Stops.{stops}
+use Rattle.steps.proofs.LentRuns.{onward_ok, onward_err, stops}
 use Rattle.decryption.proofs.CycleCode.{start_redundant, start_none, start_goes, start_stops, own_observer, own_sends, own_stops, started_falls, try_ended, try_few, try_none, try_onward}
 use Rattle.decryption.proofs.ThresholdDecrypt.+start_decryption_try_output.Goals as goal
 use Rattle.decryption.proofs.ThresholdDecrypt.+start_decryption_try_output.Goals.{start_decryption-then-is_validator+then-net+in_ok-share, start_decryption-else-is_validator, start_decryption-else-is_validator-via-then-is_validator+else-net, start_decryption-else-is_validator-via-else-is_validator, try_output-then-self-via-then-self, try_output-then-self-via-else-self+then-count-net, try_output-then-self-via-else-self+else-count-net+then-self-eq0}

@@ -1,8 +1,7 @@
 -- `check_share` meets its contract: there is no share, or by what is found of it. Assumes nothing.
 use Rattle.steps.specs.Steps.{put_all}
-use Rattle.steps.proofs.LentRuns.{read_ok_left, read_err_left}
+use Rattle.steps.proofs.LentRuns.{read_ok_left, read_err_left, stops}
 use Rattle.decryption.specs.Decrypt.{check_share}
-use Rattle.decryption.proofs.Stops.{stops}
 use Rattle.decryption.proofs.ThresholdDecrypt.check_share.Goals as goal
 use Rattle.decryption.proofs.ThresholdDecrypt.check_share.Goals.{else-is_sender-via-then-is_sender+in_ok-is_share_valid+else-not-branch, else-is_sender-via-else-is_sender}
 

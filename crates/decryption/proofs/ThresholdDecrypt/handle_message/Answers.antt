@@ -2,8 +2,7 @@
 use mathlib.Core.Path.{sym, ap, ◌∙◌}
 use Rattle.steps.specs.Runs.{leaves}
 use Rattle.steps.specs.Steps.{put_all}
-use Rattle.steps.proofs.LentRuns.{read_ok_left, read_err_left}
-use Rattle.decryption.proofs.Stops.{stops}
+use Rattle.steps.proofs.LentRuns.{read_ok_left, read_err_left, stops}
 use Rattle.decryption.proofs.MessageCode.{handle_ended, handle_goes}
 use Rattle.decryption.proofs.ThresholdDecrypt.handle_message.Goals as goal
 

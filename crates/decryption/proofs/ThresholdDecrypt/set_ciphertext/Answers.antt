@@ -1,8 +1,7 @@
 -- `set_ciphertext` meets its contract, case by case. Assumes nothing.
 use borrow.Author.Tests.{eq-eqb, ne_eqb}
-use Rattle.decryption.proofs.Stops.{stops}
 use Rattle.decryption.specs.Decrypt.{set_ciphertext}
-use Rattle.steps.proofs.LentRuns.{heard_ok, heard_err}
+use Rattle.steps.proofs.LentRuns.{heard_ok, heard_err, stops}
 use Rattle.decryption.proofs.ThresholdDecrypt.set_ciphertext.Goals as goal
 
 pub returns-then-self-ne0 : goal.returns-then-self-ne0

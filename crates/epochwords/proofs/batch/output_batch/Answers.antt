@@ -1,8 +1,7 @@
 -- `output_batch` meets its contract: the readable ones are read, then the batch is written. Assumes nothing.
 use mathlib.Core.Path.{sym, ap}
-use Rattle.std.proofs.lemmas.Result.{err_from_is_err_and}
 use Rattle.steps.specs.Steps.{put_all}
-use Rattle.steps.proofs.LentRuns.{onward_ok, onward_err}
+use Rattle.steps.proofs.LentRuns.{onward_ok, onward_err, stops}
 use Rattle.epochwords.specs.Batch.{output_batch_in}
 use Rattle.epochwords.proofs.BatchCode.{readable_ones, batch_out}
 use Rattle.epochwords.proofs.batch.output_batch.Goals as goal
@@ -10,8 +9,7 @@ use Rattle.epochwords.proofs.batch.output_batch.Goals as goal
 pub returns-in_err-readable-clause-run : goal.returns-in_err-readable-clause-run
 unfolding output_batch_in
 returns-in_err-readable-clause-run c =
-    let p = err_from_is_err_and c.from_residual.result c.from_residual.ensures.1 in
-    rw (p.1, p.2) (onward_err _ _ _ _ c.read_all.new.writer _ _ c.in_err-readable.ensures.run)
+    rw (stops _ _ c.from_residual.ensures.1) (onward_err _ _ _ _ c.read_all.new.writer _ _ c.in_err-readable.ensures.run)
 
 pub returns-clause-run : goal.returns-clause-run
 unfolding output_batch_in put_all

@@ -1,9 +1,8 @@
 -- `read_at` meets its contract, case by case. Assumes nothing.
 use mathlib.Core.Path.{refl, sym, ◌∙◌}
 use borrow.Author.Tests.{ne_eqb}
-use Rattle.std.proofs.lemmas.Result.{err_from_is_err_and}
 use Rattle.steps.specs.Steps.{put_all}
-use Rattle.steps.proofs.LentRuns.{heard_ok_left, heard_err_left}
+use Rattle.steps.proofs.LentRuns.{heard_ok_left, heard_err_left, stops}
 use Rattle.epochwords.specs.Batch.{read_at}
 use Rattle.epochwords.proofs.batch.read_at.Goals as goal
 
@@ -14,8 +13,7 @@ returns-then-not-is_read-clause-run c = rw (sym c.is_read.ensures ∙ c.if-not-i
 pub returns-in_err-a-clause-run : goal.returns-in_err-a-clause-run
 unfolding read_at
 returns-in_err-a-clause-run c =
-    let p = err_from_is_err_and c.from_residual.result c.from_residual.ensures.1 in
-    rw (p.1, p.2, sym c.is_read.ensures ∙ c.if-not-is_read.false) (heard_err_left _ _ _ _ _ c.in_err-a.ensures c.args.writer.now)
+    rw (stops _ _ c.from_residual.ensures.1, sym c.is_read.ensures ∙ c.if-not-is_read.false) (heard_err_left _ _ _ _ _ c.in_err-a.ensures c.args.writer.now)
 
 pub returns-then-a-eq0-clause-run : goal.returns-then-a-eq0-clause-run
 unfolding read_at put_all

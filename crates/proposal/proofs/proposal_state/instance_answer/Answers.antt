@@ -1,8 +1,7 @@
 -- `instance_answer` meets its contract, by the answer. Assumes nothing.
 use borrow.Author.Tests.{eq-eqb, ne_eqb}
-use Rattle.std.proofs.lemmas.Result.{err_from_is_err_and}
 use Rattle.steps.specs.Steps.{put_all}
-use Rattle.steps.proofs.LentRuns.{heard_ok_left, heard_err_left}
+use Rattle.steps.proofs.LentRuns.{heard_ok_left, heard_err_left, stops}
 use Rattle.steps.proofs.RunsInParts.{leaves_inside}
 use Rattle.proposal.specs.Proposal.{instance_answer}
 use Rattle.proposal.proofs.proposal_state.instance_answer.Goals as goal
@@ -10,8 +9,7 @@ use Rattle.proposal.proofs.proposal_state.instance_answer.Goals as goal
 pub returns-in_err-a-clause-run : goal.returns-in_err-a-clause-run
 unfolding instance_answer
 returns-in_err-a-clause-run c = λ s.
-    let p = err_from_is_err_and c.from_residual.result c.from_residual.ensures.1 in
-    rw (p.1, p.2) (heard_err_left _ s _ _ _ c.in_err-a.ensures c.args.writer.now)
+    rw (stops _ _ c.from_residual.ensures.1) (heard_err_left _ s _ _ _ c.in_err-a.ensures c.args.writer.now)
 
 pub returns-then-a-eq0-clause-run : goal.returns-then-a-eq0-clause-run
 unfolding instance_answer put_all

@@ -1,15 +1,13 @@
 -- `propose` meets its contract: an observer, or the own proposal is broadcast. Assumes nothing.
 use mathlib.Core.Path.{sym, ◌∙◌}
-use Rattle.std.proofs.lemmas.Result.{err_from_is_err_and}
-use Rattle.steps.proofs.LentRuns.{onward_ok, onward_err}
+use Rattle.steps.proofs.LentRuns.{onward_ok, onward_err, stops}
 use Rattle.subset.specs.Subset.{propose}
 use Rattle.subset.proofs.subset.propose.Goals as goal
 
 pub returns-in_err-answer_at-clause-run : goal.returns-in_err-answer_at-clause-run
 unfolding propose
 returns-in_err-answer_at-clause-run c =
-    let p = err_from_is_err_and c.from_residual.result c.from_residual.ensures.1 in
-    rw (p.1, p.2, sym c.is_validator.ensures ∙ c.if-not-is_validator.false) (onward_err _ _ _ _ c.answer_at.new.writer _ _ c.in_err-answer_at.ensures.run)
+    rw (stops _ _ c.from_residual.ensures.1, sym c.is_validator.ensures ∙ c.if-not-is_validator.false) (onward_err _ _ _ _ c.answer_at.new.writer _ _ c.in_err-answer_at.ensures.run)
 
 pub returns-clause-run : goal.returns-clause-run
 unfolding propose

@@ -1,15 +1,13 @@
 -- `try_output` meets its contract: too early or decided, or by the votes and whether all are complete. Assumes nothing.
 use mathlib.Core.Path.{sym, ◌∙◌}
-use Rattle.std.proofs.lemmas.Result.{err_from_is_err_and}
 use Rattle.steps.specs.Steps.{put_all}
-use Rattle.steps.proofs.LentRuns.{onward_ok, onward_err}
+use Rattle.steps.proofs.LentRuns.{onward_ok, onward_err, stops}
 use Rattle.subset.proofs.SubsetCode.{votes_left}
 use Rattle.subset.proofs.subset.try_output.Goals as goal
 
 pub returns-in_err-votes-clause-run : goal.returns-in_err-votes-clause-run
 returns-in_err-votes-clause-run c =
-    let p = err_from_is_err_and c.from_residual.result c.from_residual.ensures.1 in
-    rw (p.1, p.2) (votes_left _ _ _ _ _ _ c.count_accepted.ensures c.num_correct.ensures c.if-decided.false c.if-count_accepted-num_correct.false _ _ (onward_err _ _ _ _ c.votes.new.writer _ _ c.in_err-votes.ensures.run))
+    rw (stops _ _ c.from_residual.ensures.1) (votes_left _ _ _ _ _ _ c.count_accepted.ensures c.num_correct.ensures c.if-decided.false c.if-count_accepted-num_correct.false _ _ (onward_err _ _ _ _ c.votes.new.writer _ _ c.in_err-votes.ensures.run))
 
 pub returns-then-all_complete-clause-run : goal.returns-then-all_complete-clause-run
 unfolding put_all

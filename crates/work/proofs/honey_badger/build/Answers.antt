@@ -1,8 +1,7 @@
 -- `build` meets its contract, case by case. Assumes nothing.
 use mathlib.Core.Path.{refl}
 use borrow.Author.Tests.{eq-eqb, ne_eqb}
-use Rattle.std.proofs.lemmas.Result.{err_from_is_err_and}
-use Rattle.steps.proofs.LentRuns.{heard_ok, heard_err}
+use Rattle.steps.proofs.LentRuns.{heard_ok, heard_err, stops}
 use Rattle.work.specs.Work.{built}
 use Rattle.work.proofs.honey_badger.build.Goals as goal
 
@@ -13,8 +12,7 @@ returns-then-words-ne-STATUS_VACANT c = rw (ne_eqb _ _ c.if-words-ne-STATUS_VACA
 pub returns-in_err-a : goal.returns-in_err-a
 unfolding built
 returns-in_err-a c =
-    let p = err_from_is_err_and c.from_residual.result c.from_residual.ensures.1 in
-    rw (p.1, p.2, eq-eqb _ _ c.if-words-ne-STATUS_VACANT.false) (heard_err _ _ _ _ _ c.in_err-a.ensures)
+    rw (stops _ _ c.from_residual.ensures.1, eq-eqb _ _ c.if-words-ne-STATUS_VACANT.false) (heard_err _ _ _ _ _ c.in_err-a.ensures)
 
 pub returns-then-a-eq0 : goal.returns-then-a-eq0
 unfolding built

@@ -1,7 +1,6 @@
 -- `call_epoch` meets its contract: the epoch is loaded and built, then its call runs. Assumes nothing.
 use mathlib.Core.Path.{refl, ap, ◌∙◌}
-use Rattle.std.proofs.lemmas.Result.{err_from_is_err_and}
-use Rattle.steps.proofs.LentRuns.{read_ok_left, read_err_left}
+use Rattle.steps.proofs.LentRuns.{read_ok_left, read_err_left, stops}
 use Rattle.state.specs.State.{nodes}
 use Rattle.state.proofs.RangeCode.{ok_words}
 use Rattle.work.specs.Work.{built, epoch_call}
@@ -11,8 +10,7 @@ use Rattle.work.proofs.honey_badger.call_epoch.Goals as goal
 pub returns-in_err-build-clause-run : goal.returns-in_err-build-clause-run
 unfolding epoch_call
 returns-in_err-build-clause-run c =
-    let p = err_from_is_err_and c.from_residual.result c.from_residual.ensures.1 in
-    rw (p.1, p.2) (read_err_left _ _ _ _ _ (c.in_err-build.ensures ∙ ap (λ x. built (nodes c.args.state.now) x c.args.reader.now) c.load.ensures) c.args.writer.now)
+    rw (stops _ _ c.from_residual.ensures.1) (read_err_left _ _ _ _ _ (c.in_err-build.ensures ∙ ap (λ x. built (nodes c.args.state.now) x c.args.reader.now) c.load.ensures) c.args.writer.now)
 
 pub call_body-requires : goal.call_body-requires
 call_body-requires c = (

@@ -1,8 +1,7 @@
 -- `try_output_batch` meets its contract, by what its two callees leave. Assumes nothing.
 use mathlib.Core.Path.{refl, sym, ◌∙◌}
-use Rattle.std.proofs.lemmas.Result.{err_from_is_err_and}
 use Rattle.steps.specs.Steps.{put_all}
-use Rattle.steps.proofs.LentRuns.{onward_ok, onward_err}
+use Rattle.steps.proofs.LentRuns.{onward_ok, onward_err, stops}
 use Rattle.work.specs.Shape.{try_output_batch}
 use Rattle.work.proofs.honey_badger.try_output_batch.Goals as goal
 
@@ -13,8 +12,7 @@ returns-then-not-is_ready-clause-run c = rw (sym c.is_ready.ensures ∙ c.if-not
 pub returns-in_err-output_batch-clause-run : goal.returns-in_err-output_batch-clause-run
 unfolding try_output_batch
 returns-in_err-output_batch-clause-run c =
-    let p = err_from_is_err_and c.from_residual.result c.from_residual.ensures.1 in
-    rw (p.1, p.2, sym c.is_ready.ensures ∙ c.if-not-is_ready.false) (onward_err _ _ _ _ c.output_batch.new.writer _ _ c.in_err-output_batch.ensures.run)
+    rw (stops _ _ c.from_residual.ensures.1, sym c.is_ready.ensures ∙ c.if-not-is_ready.false) (onward_err _ _ _ _ c.output_batch.new.writer _ _ c.in_err-output_batch.ensures.run)
 
 pub returns-clause-run : goal.returns-clause-run
 unfolding try_output_batch put_all

@@ -1,8 +1,8 @@
 -- `try_output_batches` meets its contract. The invariant: what the batches from here on leave is what all leave. Assumes nothing.
+use Rattle.steps.proofs.LentRuns.{stops}
 use Prim.Native.Nat.{◌+◌, ◌-◌}
 use mathlib.Core.Path.{◌≡◌, refl, ap, ◌∙◌}
 use native.Mathlib.Omega.{arith}
-use Rattle.std.proofs.lemmas.Result.{err_from_is_err_and}
 use Rattle.steps.specs.Steps.{put_all}
 use Rattle.steps.specs.Runs.{leaves}
 use Rattle.state.specs.State.{ahead, current_epoch}
@@ -16,8 +16,7 @@ loop-number-init c =
 
 pub returns-in_err-try_output_at-clause-run : goal.returns-in_err-try_output_at-clause-run
 returns-in_err-try_output_at-clause-run c =
-    let p = err_from_is_err_and c.from_residual.result c.from_residual.ensures.1 in
-    rw (p.1, p.2, c.loop-number.invariant.next) (tried_ends _ _ _ c.loop-number.number _ _ _ c.in_err-try_output_at.ensures.run c.loop-number-test.true _ refl) ∙ c.loop-number.invariant.run
+    rw (stops _ _ c.from_residual.ensures.1, c.loop-number.invariant.next) (tried_ends _ _ _ c.loop-number.number _ _ _ c.in_err-try_output_at.ensures.run c.loop-number-test.true _ refl) ∙ c.loop-number.invariant.run
 
 pub returns-then-not-branch-clause-run : goal.returns-then-not-branch-clause-run
 returns-then-not-branch-clause-run c = rw c.loop-number.invariant.next (tried_over _ _ _ c.loop-number.number _ _ _ (rw c.if-not-branch.true at c.in_ok-try_output_at.ensures.run) c.loop-number-test.true refl) ∙ c.loop-number.invariant.run
