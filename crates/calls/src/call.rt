@@ -41,7 +41,7 @@ fn counter<'a>() -> Writer<'a>
 }
 
 // A call that runs no epoch: an observer's propose, and a message for an epoch that is over. Its step is empty.
-#[tactic(auto, using(crate::proofs::CallCode::none_counted))]
+#[tactic(auto, using(crate::proofs::CallCode::none_counted, crate::proofs::CallCode::end_is, crate::proofs::CallCode::still_unread, crate::proofs::CallCode::still_full, crate::proofs::CallCode::rest_done))]
 pub fn rest(epoch: u64, state: &[u64], answers: &[u64], table: &mut [u64]) -> u64
     requires { (state_ok state.now ≡ true) × (4 ≤ length answers.now) }
     ensures { (scratch : List ℕ) → after result state.now scratch table.new
@@ -58,7 +58,7 @@ pub fn rest(epoch: u64, state: &[u64], answers: &[u64], table: &mut [u64]) -> u6
 }
 
 // A message for an epoch beyond the look-ahead: fault 1 of its sender.
-#[tactic(auto, using(state::proofs::WordsCode::header_inside, state::proofs::RangeCode::ok_words))]
+#[tactic(auto, using(state::proofs::WordsCode::header_inside, state::proofs::RangeCode::ok_words, crate::proofs::CallCode::end_is, crate::proofs::CallCode::still_unread, crate::proofs::CallCode::still_full, crate::proofs::CallCode::early_counted, crate::proofs::CallCode::early_done, crate::proofs::CallCode::one_fault))]
 pub fn too_early(
     sender: u64,
     epoch: u64,
@@ -88,6 +88,7 @@ pub fn too_early(
 
 // A run whose step has no record: it failed, and its step is lost, or it is done and wrote none (`done_empty` in proofs/CallCode.antt).
 // What it changed stays.
+#[tactic(auto, using(crate::proofs::CallCode::failed_full, crate::proofs::CallCode::failed_done))]
 fn close(
     state: &mut [u64],
     words: &[u64],
@@ -110,6 +111,7 @@ fn close(
 }
 
 // A run that is done: the second run writes its step, then the state is written.
+#[tactic(auto, using(state::proofs::WordsCode::header_inside, state::proofs::RangeCode::ok_words, crate::proofs::CallCode::done_counted, crate::proofs::CallCode::done_full, crate::proofs::CallCode::done_written))]
 fn finish(
     state: &mut [u64],
     words: &mut [u64],
@@ -146,6 +148,7 @@ fn finish(
 }
 
 // Both runs and the commit, with the words of the call's epoch. A step without records, as most are, needs no second run.
+#[tactic(auto, using(state::proofs::RangeCode::ok_words, crate::proofs::CallCode::first_counted, crate::proofs::CallCode::first_step, crate::proofs::CallCode::first_refused, crate::proofs::CallCode::unread, crate::proofs::CallCode::failed_read, crate::proofs::CallCode::done_empty, crate::proofs::CallCode::done_read))]
 fn run_twice(
     state: &mut [u64],
     words: &mut [u64],
@@ -182,6 +185,7 @@ fn run_twice(
 }
 
 // A call that runs an epoch, in the first words of scratch.
+#[tactic(auto, using(state::proofs::WordsCode::header_inside, state::proofs::RangeCode::ok_words, crate::proofs::CallCode::epoch_fits, crate::proofs::CallCode::zeroed_part))]
 pub fn settle(
     state: &mut [u64],
     scratch: &mut [u64],

@@ -2,20 +2,9 @@
 use mathlib.Core.Path.{refl, sym, ◌∙◌}
 use native.Mathlib.Omega.{arith}
 use lib.Seq.{length-take-le}
-use Rattle.state.proofs.WordsCode.{header_inside}
-use Rattle.state.proofs.RangeCode.{ok_words}
 use Rattle.calls.specs.Calls.{zeroed}
 use Rattle.calls.proofs.CallCode.{epoch_fits, zeroed_part, after_same}
 use Rattle.calls.proofs.call.settle.Goals as goal
-
-pub bounds-state-1 : goal.bounds-state-1
-bounds-state-1 c = omega (arith, header_inside c.args.state.now (ok_words c.args.state.now c.requires.ok))
-
-pub epoch_length-size-requires : goal.epoch_length-size-requires
-epoch_length-size-requires c = (ok_words c.args.state.now c.requires.ok).few
-
-pub slice_bounds-run_twice-end : goal.slice_bounds-run_twice-end
-slice_bounds-run_twice-end c = omega (arith, epoch_fits c.args.state.now c.requires.ok, c.epoch_length-size.ensures, c.requires.room)
 
 pub slice_bounds-run_twice-end-2 : goal.slice_bounds-run_twice-end-2
 slice_bounds-run_twice-end-2 c = sym (length-take-le c.epoch_length-size.result c.args.scratch.now (omega (arith, epoch_fits c.args.state.now c.requires.ok, c.epoch_length-size.ensures, c.requires.room)))

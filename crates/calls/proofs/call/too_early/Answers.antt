@@ -1,18 +1,11 @@
 -- `too_early` meets its contract: 9, 10 and the step of one fault, counted. Assumes nothing.
 use mathlib.Core.Path.{refl, ◌∙◌}
-use mathlib.Core.List.{[], ◌∷◌}
 use native.Mathlib.Omega.{arith}
 use borrow.Author.Rules.{rules}
 use Rattle.steps.specs.Answers.{tape_of}
 use Rattle.steps.specs.Steps.{fault}
-use Rattle.calls.proofs.CallCode.{end_is, after_same, still_unread, still_full, one_fault, early_counted, early_done}
+use Rattle.calls.proofs.CallCode.{end_is, after_same, one_fault, early_counted, early_done}
 use Rattle.calls.proofs.call.too_early.Goals as goal
-
-pub returns-then-not-is_end : goal.returns-then-not-is_end
-returns-then-not-is_end c = λ s. still_unread _ s _ _ _ (fault 1 c.args.sender 0 ∷ []) (end_is _ _ _ c.reader_of.ensures c.is_end.ensures ∙ c.if-not-is_end.true)
-
-pub returns-then-table-lt2 : goal.returns-then-table-lt2
-returns-then-table-lt2 c = λ s. still_full _ s _ _ _ (fault 1 c.args.sender 0 ∷ []) (end_is _ _ _ c.reader_of.ensures c.is_end.ensures ∙ c.if-not-is_end.false) (omega (arith, c.if-table-lt2.true))
 
 pub writing-step-requires : goal.writing-step-requires
 writing-step-requires c = early_counted (fault 1 c.args.sender 0) _ _ c.counter-counter.ensures c.fault.ensures.step
