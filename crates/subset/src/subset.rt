@@ -1,4 +1,7 @@
 // The subset over the words of one epoch, after subset.rs. `error` is the failure that the caller gives the error of an instance.
+//
+// `EpochWords` stands in each contract, and words, network, reader and writer are parameters one by one: an epoch is a slice of the memory
+// that C hands over, lent from layer to layer, and a struct of them would be made in each call only to be taken apart after it.
 ghost use Rattle.std.specs.Prelude.{◌≡◌, ◌<◌, ℕ};
 ghost use Rattle.network.specs.Network.{Network};
 ghost use Rattle.steps.specs.Answers.{Tape};
