@@ -124,6 +124,7 @@ struct Ran {
     step: Step,
 }
 
+// No `From`, since neither it nor the strategy is this crate's.
 fn strategy_of(number: u64) -> SubsetHandlingStrategy {
     match number {
         0 => SubsetHandlingStrategy::Incremental,

@@ -136,6 +136,7 @@ fn begin(counted: Step, words: &mut [u64], epoch: u64) -> Step {
     step
 }
 
+// No `Display`, since neither it nor the outcome is this crate's.
 fn show_outcome<W: Write>(out: &mut W, outcome: Outcome) -> io::Result<()> {
     match outcome {
         Outcome::Nothing => writeln!(out, "  nothing"),
