@@ -144,6 +144,7 @@ impl From<End> for u64 {
     }
 }
 
+// No `From`, since neither it nor the strategy is this crate's.
 fn strategy_of(number: u64) -> SubsetHandlingStrategy {
     match number {
         0 => SubsetHandlingStrategy::Incremental,
@@ -222,12 +223,7 @@ fn build(epoch: &mut [u64], n: usize, reader: &mut Reader) -> Result<(), Stop>
 }
 
 // The epoch's propose or message.
-fn enter(
-    epoch: &mut [u64],
-    call: Call,
-    reader: &mut Reader,
-    writer: &mut Writer,
-) -> Result<(), End>
+fn enter(epoch: &mut [u64], call: Call, reader: &mut Reader, writer: &mut Writer) -> Result<(), End>
     requires { EpochWords call.how.net.num_nodes epoch.old }
 {
     let how = call.how;
@@ -237,7 +233,8 @@ fn enter(
     if !epoch_in_range(epoch, strategy, net.num_nodes) {
         return Err(End::NotAState);
     }
-    handle(epoch, net, strategy, secret, call.input(), reader, writer)?;
+    let input = call.input();
+    handle(epoch, net, strategy, secret, input, reader, writer)?;
     Ok(())
 }
 
@@ -260,12 +257,7 @@ fn hand_out(
 }
 
 // The call, from its first answer on: whether the batch went out.
-fn run(
-    epoch: &mut [u64],
-    call: Call,
-    reader: &mut Reader,
-    writer: &mut Writer,
-) -> Result<bool, End>
+fn run(epoch: &mut [u64], call: Call, reader: &mut Reader, writer: &mut Writer) -> Result<bool, End>
     requires { EpochWords call.how.net.num_nodes epoch.old }
 {
     let n = call.how.net.num_nodes;

@@ -136,6 +136,7 @@ fn begin(counted: Step, words: &mut [u64], epoch: u64) -> Step {
     step
 }
 
+// No `Display`, since neither it nor the result is this crate's.
 fn show_result<W: Write>(out: &mut W, handled: Result<Option<u64>, Stop>) -> io::Result<()> {
     match handled {
         Ok(None) => writeln!(out, "  nothing"),

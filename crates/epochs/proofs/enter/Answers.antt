@@ -11,6 +11,6 @@ listed : (strategy : SubsetHandlingStrategy) (n : ℕ) (w : List ℕ) (b : Bool)
 listed strategy n w b some words answer went_on =
     ok_listed n w (epoch_below n w strategy some words.long (sym answer ∙ went_on))
 
-pub handle_from-requires : goal.handle_from-requires
-handle_from-requires c =
+pub handle-requires : goal.handle-requires
+handle-requires c =
     (c.args.call.how.in_range.0, c.requires, listed _ _ _ _ c.args.call.how.in_range.0.some c.requires c.epoch_in_range.ensures c.if-not-epoch_in_range.false, c.input-input.ensures)
