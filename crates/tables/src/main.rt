@@ -215,7 +215,9 @@ impl<W: Write> Tables<'_, W> {
             words: &mut [],
         };
         let first = &mut reader(answers);
-        let handled = self.td.handle_message(net, 0, sender, handle, first, &mut counting);
+        let handled = self
+            .td
+            .handle_message(net, 0, sender, handle, first, &mut counting);
         let counted = counting.step;
         show_result(self.out, handled)?;
         let mut words = [9u64; 20];
