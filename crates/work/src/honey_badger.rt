@@ -48,6 +48,7 @@ impl From<Call> for Input {
 }
 
 // `try_output_batch`: hands out the batch of epoch `number`, whose words these are, if it is ready: whether it went out.
+#[tactic(auto, unfolding(crate::specs::Shape::try_output_batch, steps::specs::Steps::put_all))]
 fn try_output_batch(
     words: &[u64],
     n: usize,
@@ -68,7 +69,7 @@ fn try_output_batch(
 }
 
 // Hands out the batch of epoch `number`, if it is ready. `words` are those of epoch `epoch`; those of the others stand in the state.
-#[tactic(auto, using(state::proofs::WordsCode::place_inside, state::proofs::WordsCode::state_small))]
+#[tactic(auto, using(state::proofs::WordsCode::place_inside, state::proofs::WordsCode::state_small, state::proofs::WordsCode::part_words, state::proofs::WordsCode::words_epoch, crate::proofs::BatchTurnCode::beside_own, crate::proofs::BatchTurnCode::beside_other))]
 fn try_output_at(
     state: &[u64],
     epoch: u64,
@@ -93,7 +94,7 @@ fn try_output_at(
 
 // `try_output_batches`: hands out batches from the current epoch on, as long as the next one is ready. `next` is then the epoch that is
 // next.
-#[tactic(auto, using(state::proofs::WordsCode::header_inside))]
+#[tactic(auto, using(state::proofs::WordsCode::header_inside, crate::proofs::BatchTurnCode::tried_over, crate::proofs::BatchTurnCode::tried_ends, crate::proofs::BatchTurnCode::none_left), unfolding(steps::specs::Steps::put_all))]
 fn try_output_batches(
     state: &[u64],
     epoch: u64,
@@ -137,7 +138,7 @@ fn build(n: usize, words: &mut [u64], reader: &mut Reader) -> Result<(), Stop>
 }
 
 // The epoch's own call.
-#[tactic(auto, using(state::proofs::WordsCode::header_inside, state::proofs::RangeCode::ok_words, state::proofs::RangeCode::ok_schedule))]
+#[tactic(auto, using(state::proofs::WordsCode::header_inside, state::proofs::RangeCode::ok_words, state::proofs::RangeCode::ok_schedule, crate::proofs::RunCode::net_network, crate::proofs::RunCode::net_nodes, crate::proofs::RunCode::call_comes, crate::proofs::RunCode::body_input))]
 fn call_body(
     state: &[u64],
     epoch: u64,

@@ -5,10 +5,6 @@ use Rattle.steps.proofs.LentRuns.{heard_ok, heard_err, stops}
 use Rattle.work.specs.Work.{built}
 use Rattle.work.proofs.honey_badger.build.Goals as goal
 
-pub returns-then-words-ne-STATUS_VACANT : goal.returns-then-words-ne-STATUS_VACANT
-unfolding built
-returns-then-words-ne-STATUS_VACANT c = rw (ne_eqb _ _ c.if-words-ne-STATUS_VACANT.true)
-
 pub returns-in_err-a : goal.returns-in_err-a
 unfolding built
 returns-in_err-a c =

@@ -5,10 +5,6 @@ use Rattle.steps.proofs.LentRuns.{onward_ok, onward_err, stops}
 use Rattle.work.specs.Shape.{try_output_batch}
 use Rattle.work.proofs.honey_badger.try_output_batch.Goals as goal
 
-pub returns-then-not-is_ready-clause-run : goal.returns-then-not-is_ready-clause-run
-unfolding try_output_batch put_all
-returns-then-not-is_ready-clause-run c = rw (sym c.is_ready.ensures ∙ c.if-not-is_ready.true)
-
 pub returns-in_err-output_batch-clause-run : goal.returns-in_err-output_batch-clause-run
 unfolding try_output_batch
 returns-in_err-output_batch-clause-run c =
