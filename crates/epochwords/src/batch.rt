@@ -57,6 +57,7 @@ fn is_read(epoch: &[u64], size: usize, p: usize) -> bool
 
 // Asks whether the contribution of proposer p reads, where it belongs to the batch: its bit joins the readable ones. One that doesn't is the
 // proposer's fault.
+#[tactic(auto, unfolding(crate::specs::Batch::read_at, steps::specs::Steps::put_all))]
 fn read_at(
     epoch: &[u64],
     size: usize,
@@ -81,6 +82,7 @@ fn read_at(
 }
 
 // Reads the contributions of the batch, by rising proposer: the readable ones, a word of bits.
+#[tactic(auto, using(crate::proofs::BatchCode::reads_over), unfolding(steps::specs::Steps::put_all))]
 fn read_all(
     epoch: &[u64],
     size: usize,
@@ -100,6 +102,7 @@ fn read_all(
 }
 
 // An entry for each readable contribution, by rising proposer.
+#[tactic(auto, using(crate::proofs::BatchCode::entries_some, crate::proofs::BatchCode::entries_none, crate::proofs::BatchCode::entries_over))]
 fn put_entries(epoch: &[u64], size: usize, n: usize, readable: u64, writer: &mut Writer)
     requires { Records size n epoch.now }
     ensures step { out_of writer.new ≡ put_all (out_of writer.old) (entries_from size n 0 readable epoch.now) }

@@ -6,10 +6,6 @@ use Rattle.steps.proofs.LentRuns.{heard_ok_left, heard_err_left, stops}
 use Rattle.epochwords.specs.Batch.{read_at}
 use Rattle.epochwords.proofs.batch.read_at.Goals as goal
 
-pub returns-then-not-is_read-clause-run : goal.returns-then-not-is_read-clause-run
-unfolding read_at put_all
-returns-then-not-is_read-clause-run c = rw (sym c.is_read.ensures ∙ c.if-not-is_read.true)
-
 pub returns-in_err-a-clause-run : goal.returns-in_err-a-clause-run
 unfolding read_at
 returns-in_err-a-clause-run c =
