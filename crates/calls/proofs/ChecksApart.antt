@@ -7,7 +7,7 @@ use mathlib.Core.Bool.{Bool, true, false, cond, not}
 use lib.Dec.{eqb, leb, ltb}
 use lib.ListN.{length, take, drop, replicate}
 use lib.Seq.{length-take-le}
-use borrow.Author.Tests.{eqb-true, eq-eqb, ne_eqb, lt-ltb, le-ltb, lt-leb, le-leb, ltb-true, ltb-false, leb-false}
+use borrow.Author.Tests.{eqb-true, eq-eqb, ne_eqb, lt-leb, le-leb, ltb-true, ltb-false, leb-false}
 use Rattle.steps.specs.Numbers.{last_epoch}
 use Rattle.steps.specs.Table.{within, shape_ok, table_ok}
 use Rattle.steps.specs.Answers.{Tape, tape_of}
@@ -67,35 +67,7 @@ module _ (a b : ℕ) where
       go true z e = ap (leaves_scratch) (eqb-true a 0 z)
       go false z e = e
 
--- EACH REPLY, by its test
-module _ (state : List ℕ) (scratch : ℕ) (answers : List ℕ) where
-  pub first_three : state_ok state ≡ false → 3 ≡ first_checks state scratch answers
-  unfolding first_checks
-  first_three e = rw e
-
-  module _ (ok : state_ok state ≡ true) where
-    pub first_four : scratch < scratch_of state → 4 ≡ first_checks state scratch answers
-    unfolding first_checks
-    first_four l = rw (ok, lt-ltb _ _ l)
-
-    module _ (room : scratch_of state ≤ scratch) where
-      pub first_five : table_ok (nodes state) answers ≡ false → 5 ≡ first_checks state scratch answers
-      unfolding first_checks
-      first_five e = rw (ok, le-ltb _ _ room, e)
-
-      pub first_none : table_ok (nodes state) answers ≡ true → 0 ≡ first_checks state scratch answers
-      unfolding first_checks
-      first_none e = rw (ok, le-ltb _ _ room, e)
-
-module _ (state : List ℕ) where
-  pub epoch_high : last_epoch < current_epoch state → 6 ≡ epoch_check state
-  unfolding epoch_check
-  epoch_high l = rw (lt-ltb _ _ l)
-
-  pub epoch_low : current_epoch state ≤ last_epoch → 0 ≡ epoch_check state
-  unfolding epoch_check
-  epoch_low l = rw (le-ltb _ _ l)
-
+-- A MESSAGE'S OWN REPLIES, by their tests
 module _ (sender content proposer item : ℕ) (state : List ℕ) where
   pub message_sender : nodes state ≤ sender → 11 ≡ message_check sender content proposer item state
   unfolding message_check

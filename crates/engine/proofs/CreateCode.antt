@@ -6,14 +6,14 @@ use mathlib.Core.List.{List, ◌++◌}
 use mathlib.Core.Bool.{Bool, true, false, ◌&&◌}
 use lib.Dec.{leb, ltb}
 use lib.ListN.{length, set, get_or, replicate, replicate-append-replicate}
-use borrow.Author.Tests.{eq-eqb, ne_eqb, leb-true, ltb-true}
+use borrow.Author.Tests.{leb-true, ltb-true}
 use Rattle.steps.specs.Table.{within}
 use Rattle.state.specs.Schedule.{schedule_ok, used_first, used_second}
 use Rattle.state.specs.State.{state_length, all_hold}
 use Rattle.state.proofs.Bools.{and_left, and_right, test_holds}
 use Rattle.state.proofs.Sheet.{OnSheet}
 use Rattle.state.proofs.Window.{header_first}
-use Rattle.engine.specs.Create.{Numbers, number_tests, numbers_ok, created_header, created, create_reply, create_state}
+use Rattle.engine.specs.Create.{Numbers, number_tests, numbers_ok, created_header, created}
 
 module _ (c : Numbers) where
   -- test i of the numbers holds
@@ -79,18 +79,3 @@ module _ (c : Numbers) where
           6 c.strategy) 7 c.schedule) 8 (used_first c.schedule c.first)) 9 (used_second c.schedule c.second)) 10 c.epoch
           ≡ created_header c ++ replicate (k - 11) 0
       go k s = rw (ap zeros s ∙ sym (replicate-append-replicate 11 (k - 11) 0))
-
-  -- THE WAYS OUT
-  module _ (w : List ℕ) where
-    pub create_off : numbers_ok c ≡ false → (1 ≡ create_reply c w) × (w ≡ create_state c w)
-    unfolding create_reply create_state
-    create_off h = (rw h, rw h)
-
-    pub create_short : numbers_ok c ≡ true → (length w ≡ state_length c.nodes c.ahead → ⊥) → (2 ≡ create_reply c w) × (w ≡ create_state c w)
-    unfolding create_reply create_state
-    create_short h n = (rw (h, ne_eqb _ _ n), rw (h, ne_eqb _ _ n))
-
-    pub create_done : numbers_ok c ≡ true → length w ≡ state_length c.nodes c.ahead → (v : List ℕ) → v ≡ created c
-        → (0 ≡ create_reply c w) × (v ≡ create_state c w)
-    unfolding create_reply create_state
-    create_done h l v e = (rw (h, eq-eqb _ _ l), rw (h, eq-eqb _ _ l) e)
