@@ -1,15 +1,13 @@
 -- `read_all` meets its contract. The invariant: what reading from here on leaves is what reading from the start leaves. Assumes nothing.
 use mathlib.Core.Path.{refl, sym, ap, ◌∙◌}
-use Rattle.std.proofs.lemmas.Result.{err_from_is_err_and}
 use Rattle.steps.specs.Runs.{leaves}
-use Rattle.steps.proofs.LentRuns.{onward_ok, onward_err}
+use Rattle.steps.proofs.LentRuns.{onward_ok, onward_err, stops}
 use Rattle.epochwords.proofs.BatchCode.{reads_turn}
 use Rattle.epochwords.proofs.batch.read_all.Goals as goal
 
 pub returns-in_err-readable-clause-run : goal.returns-in_err-readable-clause-run
 returns-in_err-readable-clause-run c =
-    let p = err_from_is_err_and c.from_residual.result c.from_residual.ensures.1 in
-    rw (p.1, p.2) (onward_err _ _ _ _ c.read_at.new.writer _ _ c.in_err-readable.ensures.run ∙ ap (leaves _) (sym (reads_turn c.args.size c.args.n c.loop-p.p c.loop-p.readable c.args.epoch.now c.loop-p.reader c.loop-p-test.true)) ∙ c.loop-p.invariant.run)
+    rw (stops _ _ c.from_residual.ensures.1) (onward_err _ _ _ _ c.read_at.new.writer _ _ c.in_err-readable.ensures.run ∙ ap (leaves _) (sym (reads_turn c.args.size c.args.n c.loop-p.p c.loop-p.readable c.args.epoch.now c.loop-p.reader c.loop-p-test.true)) ∙ c.loop-p.invariant.run)
 
 pub loop-p-preserved : goal.loop-p-preserved
 loop-p-preserved c = record {
