@@ -11,8 +11,7 @@ use native.Mathlib.Omega.{arith}
 use lib.ListN.{length, get_or}
 use lib.Dec.{ltb}
 use borrow.Author.Tests.{ltb-true, ltb-false, lt-ltb, le-ltb}
-use Rattle.steps.specs.Answers.{Tape, Rec, link, rec_at, on_record, walk, chain, tape_at, asked, ask_for}
-use Rattle.steps.specs.Answers.{Got, Refused}
+use Rattle.steps.specs.Answers.{link, rec_at, on_record, walk, chain}
 
 and-false : (x : Bool) → x && false ≡ false
 and-false true = refl

@@ -1,17 +1,14 @@
 -- Laws of the parts of an answer. Assumes nothing.
 use Prim.Native.Nat.{ℕ}
-use mathlib.Core.Path.{◌≡◌, sym, ap, ◌∙◌}
+use mathlib.Core.Path.{◌≡◌}
 use mathlib.Core.List.{List, [], ◌∷◌, ◌++◌}
 use mathlib.Core.Bool.{true, false}
 use borrow.Author.Tests.{eq-eqb, ne_eqb}
 use Rattle.steps.specs.declared.reader.Content.{Content}
 use Rattle.std.specs.Prelude.{Option}
-use Rattle.steps.specs.declared.step.Step.{Step}
-use Rattle.steps.specs.Answers.{Rec, tape, chain, tape_at}
-use Rattle.steps.specs.Steps.{Entry, message, fault, Out, out, put_entry, put_all}
-use Rattle.steps.specs.Runs.{Run, leaves}
-use Rattle.steps.specs.Parts.{is_part, message_kind, fault_kind, part_entries, last_output, PartsTold, parts_from, told_by}
-use Rattle.steps.proofs.RunLaws.{leaves_before}
+use Rattle.steps.specs.Answers.{Rec, tape}
+use Rattle.steps.specs.Steps.{Entry, message, fault, Out, put_entry, put_all}
+use Rattle.steps.specs.Parts.{is_part, message_kind, fault_kind, part_entries, last_output, PartsTold, parts_from}
 
 -- what is told with entries before
 abbrev pub after_entries : List Entry → PartsTold → PartsTold

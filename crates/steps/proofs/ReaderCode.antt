@@ -7,23 +7,18 @@ use lib.ListN.{length, get_or, drop}
 use native.Mathlib.Omega.{arith}
 use Rattle.std.specs.Prelude.{Option, Some, None, Ok, Err, is_some, not, ◌<◌}
 use Rattle.steps.specs.declared.reader.Record.{Record}
-use Rattle.steps.specs.declared.kinds.Stop.{Stop}
-use Rattle.steps.specs.declared.kinds.Stop.TheVariants.{NotNext, Failed}
-use Rattle.steps.specs.Answers.{Tape, Rec, tape, link, rec_at, on_record, chain, first_record, Asked, is_end, ask_for, verdict_of}
-use Rattle.steps.specs.Verdicts.{Verdict, going, refused, failed}
-use Rattle.steps.specs.Kinds.{verdict_of as verdict_in, failure_number}
-use Rattle.steps.specs.Answers.{Answer}
-use Rattle.steps.specs.Answers.{Got, Refused}
-use Rattle.steps.specs.Told.{Told, told, taken, heard_in}
+use Rattle.steps.specs.declared.kinds.Stop.TheVariants.{NotNext}
+use Rattle.steps.specs.Answers.{Tape, Rec, tape, link, rec_at, on_record, chain, first_record, is_end, ask_for}
+use Rattle.steps.specs.Told.{told, taken, heard_in}
 use Rattle.steps.specs.declared.reader.Content.{Content}
 use Rattle.steps.specs.declared.step.Writer.{Writer}
 use Rattle.steps.specs.Steps.{Out, put_all}
-use Rattle.steps.specs.Runs.{Run, ends, onward, heard, heard_as, leaves}
+use Rattle.steps.specs.Runs.{Run, leaves}
 use Rattle.steps.specs.Written.{out_of, left}
 use Rattle.std.specs.Option.{option_or}
 use Rattle.steps.specs.Parts.{is_part, part_entries, output_of, last_of, last_output, parts_from, told_by}
 use Rattle.steps.proofs.Parts.{after_entries, parts_on, parts_off}
-use Rattle.steps.proofs.RunLaws.{leaves_before, onward_go, onward_refused, onward_failed}
+use Rattle.steps.proofs.RunLaws.{leaves_before}
 use Rattle.steps.proofs.ChainLaws.{chain_on, chain_off}
 
 -- a record as the chain has it
