@@ -1,5 +1,5 @@
 // The way of a call that has passed its checks: a first run that only counts, 8, 9 and 10, a second run that writes if there are records, then the commit.
-// What is left in scratch is cleared by the caller.
+// What is left in scratch is cleared by the caller. A reply is the C interface's number: 0, a refusal's or a failure's.
 ghost use Rattle.std.specs.Prelude.{◌≡◌, length, List, [], ◌∷◌, true, ℕ, ◌≤◌};
 ghost use Rattle.steps.specs.Answers.{tape_of};
 ghost use Rattle.steps.specs.Steps.{fault, out, counting};
