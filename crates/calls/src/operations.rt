@@ -13,6 +13,7 @@ use state::words::{AHEAD_AT, EPOCH_AT, net_of};
 use work::honey_badger::Call;
 
 // `propose`. An observer's changes nothing.
+#[tactic(auto, using(state::proofs::WordsCode::header_inside, state::proofs::RangeCode::ok_words, crate::proofs::OperationCode::propose_runs))]
 pub fn propose(state: &mut [u64], scratch: &mut [u64], answers: &[u64], table: &mut [u64]) -> u64
     requires { Callable Propose state.old scratch.old answers.now }
     ensures { after result state.new (zeroed state.old scratch.new) table.new
@@ -27,6 +28,7 @@ pub fn propose(state: &mut [u64], scratch: &mut [u64], answers: &[u64], table: &
 }
 
 // `handle_message`, from a sender that is a node.
+#[tactic(auto, using(state::proofs::WordsCode::header_inside, state::proofs::RangeCode::ok_words, crate::proofs::OperationCode::message_early, crate::proofs::OperationCode::message_late, crate::proofs::OperationCode::message_runs))]
 pub fn handle_message(
     sender: u64,
     epoch: u64,
