@@ -22,14 +22,6 @@ use steps::step::{Step, Writer};
 use work::commit::{commit, count_faults};
 use work::honey_badger::{Call, run};
 
-// A reader at the first answer, which record 0 names.
-fn reader_of<'a>(answers: &'a [u64]) -> Reader<'a>
-    requires { 4 ≤ length answers.now }
-    ensures { result ≡ tape_of answers.now }
-{
-    Reader::new(answers, answers[0] as usize)
-}
-
 // A writer without a table, that counts.
 fn counter<'a>() -> Writer<'a>
     ensures { out_of result ≡ out counting [] }
@@ -47,7 +39,7 @@ pub fn rest(epoch: u64, state: &[u64], answers: &[u64], table: &mut [u64]) -> u6
     ensures { (scratch : List ℕ) → after result state.now scratch table.new
         ≡ conclude (ends (going tt) state.now (tape_of answers.now)) epoch state.now scratch table.old }
 {
-    if !reader_of(answers).is_end() {
+    if !Reader::new(answers).is_end() {
         return ANSWERS_UNREAD;
     }
     if table.len() < 4 {
@@ -70,7 +62,7 @@ pub fn too_early(
     ensures { (scratch : List ℕ) → after result state.new scratch table.new
         ≡ conclude (before (fault unexpected_hb_message_epoch sender 0 ∷ []) (ends (going tt) state.old (tape_of answers.now))) epoch state.old scratch table.old }
 {
-    if !reader_of(answers).is_end() {
+    if !Reader::new(answers).is_end() {
         return ANSWERS_UNREAD;
     }
     if table.len() / 4 < 2 {
@@ -130,7 +122,7 @@ fn finish(
     }
     let step = counted.writing();
     let mut next = 0;
-    let mut reader = reader_of(answers);
+    let mut again = Reader::new(answers);
     let mut writer = Writer { step, words: table };
     let _ = run(
         state,
@@ -138,7 +130,7 @@ fn finish(
         call,
         words,
         &mut next,
-        &mut reader,
+        &mut again,
         &mut writer,
     );
     step.header(table, epoch);
@@ -162,7 +154,7 @@ fn run_twice(
         ≡ settled (call_work call epoch state.old (tape_of answers.now)) epoch (call_base call state.old) state.old scratch table.old }
 {
     let mut next = 0;
-    let mut reader = reader_of(answers);
+    let mut reader = Reader::new(answers);
     let mut counter = counter();
     let outcome = run(
         state,

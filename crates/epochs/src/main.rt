@@ -266,11 +266,6 @@ fn run(epoch: &mut [u64], call: Call, reader: &mut Reader, writer: &mut Writer) 
     Ok(hand_out(epoch, n, call, reader, writer)?)
 }
 
-// The place of a table's first answer.
-fn first(answers: &[u64]) -> usize {
-    answers.first().map_or(0, |first| *first as usize)
-}
-
 // The words that an epoch of n nodes takes.
 fn epoch_length(n: usize) -> usize
     requires { n ≤ 7 }
@@ -287,7 +282,7 @@ fn run_in(
     writer: &mut Writer,
 ) -> Result<bool, End> {
     let length = epoch_length(call.how.net.num_nodes);
-    let mut reader = Reader::new(answers, first(answers));
+    let mut reader = Reader::new(answers);
     let ran = run(&mut all[..length], call, &mut reader, writer);
     if ran != Err(End::Stopped(Stop::NotNext)) && reader.place() != 0 {
         return Err(End::Unread);

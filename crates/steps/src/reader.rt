@@ -1,6 +1,6 @@
 // The answer reader: the records of the chain, one after the other. The cursor is lent and its place moves past what was read.
 ghost use Rattle.std.specs.Prelude.{◌≡◌, cond, ltb, Some, Ok, drop};
-ghost use Rattle.steps.specs.Answers.{chain, tape, tape_at, first_record, is_end, ask, ask_about, last_index};
+ghost use Rattle.steps.specs.Answers.{chain, tape, tape_of, first_record, is_end, ask, ask_about, last_index};
 ghost use Rattle.steps.specs.Steps.{put_all};
 ghost use Rattle.steps.specs.Kinds.{answer_number, message_number, fault_number};
 ghost use Rattle.steps.specs.Written.{out_of, same_table, left_stateless};
@@ -142,10 +142,11 @@ fn record_at(answers: &[u64], place: usize, last: usize) -> Option<Record>
 }
 
 impl<'a> Reader<'a> {
-    // A reader at a place of a table.
-    pub fn new(answers: &'a [u64], place: usize) -> Self
-        ensures { result ≡ tape_at answers.now place }
+    // A reader at a table's first answer, whose index word 0 is.
+    pub fn new(answers: &'a [u64]) -> Self
+        ensures { result ≡ tape_of answers.now }
     {
+        let place = answers.first().map_or(0, |first| *first as usize);
         let last = last_index(answers);
         Reader {
             answers,

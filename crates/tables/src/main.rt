@@ -98,11 +98,6 @@ impl fmt::Display for Told {
     }
 }
 
-// A reader at a table's first answer.
-fn reader(answers: &[u64]) -> Reader<'_> {
-    Reader::new(answers, answers.first().map_or(0, |first| *first as usize))
-}
-
 // Kinds 3 and 4 are a broadcast's, 5 to 7 an agreement's.
 fn content_of(kind: AnswerKind) -> Content {
     match kind {
@@ -116,7 +111,7 @@ fn hear(answers: &[u64], kind: u64, who: usize, writer: &mut Writer) -> Told {
     let Some(kind) = KINDS.iter().find(|known| u64::from(**known) == kind) else {
         return Told::Refused;
     };
-    let mut reader = reader(answers);
+    let mut reader = Reader::new(answers);
     match reader.ask_about(*kind, who) {
         Err(_) => Told::Refused,
         Ok((0, _)) => Told::No,
@@ -214,7 +209,7 @@ impl<W: Write> Tables<'_, W> {
             step: Step::counting(),
             words: &mut [],
         };
-        let first = &mut reader(answers);
+        let first = &mut Reader::new(answers);
         let handled = self
             .td
             .handle_message(net, 0, sender, handle, first, &mut counting);
@@ -229,7 +224,7 @@ impl<W: Write> Tables<'_, W> {
                     step: begin(counted, &mut words, 0),
                     words: &mut words,
                 };
-                let second = &mut reader(answers);
+                let second = &mut Reader::new(answers);
                 let _ = before.handle_message(net, 0, sender, handle, second, &mut writer);
             }
         }

@@ -9,4 +9,4 @@ use Rattle.calls.proofs.call.finish.Goals as goal
 pub returns : goal.returns
 returns c = λ s.
     after_same 0 _ _ s s _ _ (c.count_faults.ensures ∙ ap (λ v. count_more v c.args.counted.faults.at) c.commit.ensures) refl c.header.ensures
-    ∙ done_written c.requires.0 s _ _ c.args.counted c.requires.1 (omega (arith, c.records.ensures, c.if-table-records.false)) c.writing-step.result c.writing-step.ensures _ c.reader_of-reader.ensures _ c.run.ensures.run _ (search rules)
+    ∙ done_written c.requires.0 s _ _ c.args.counted c.requires.1 (omega (arith, c.records.ensures, c.if-table-records.false)) c.writing-step.result c.writing-step.ensures _ c.new-again.ensures _ c.run.ensures.run _ (search rules)
