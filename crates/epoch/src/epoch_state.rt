@@ -18,8 +18,7 @@ ghost use Rattle.epoch.specs.Epoch.{process_decryption, call_entry, input_cipher
 
 use decryption::ThresholdDecrypt;
 use epochwords::SubsetHandlingStrategy;
-use epochwords::entry::{load_entry, load_instance, load_tag, store_entry};
-use epochwords::tags::{ENTRY_COMPLETE, ENTRY_NONE, ENTRY_ONGOING, asks};
+use epochwords::entry::{DecryptionState, load_decryption, open_entry, store_decryption};
 use epochwords::words::{ACCEPTED_AT, STATUS_AT, STATUS_COMPLETE, STATUS_ONGOING};
 use network::network_info::NetworkInfo;
 use steps::bits::{has_bit, with_bit};
@@ -52,7 +51,7 @@ fn accept(epoch: &mut [u64], p: usize)
 }
 
 // Stores the entry of proposer p after a call: a plaintext completes it. After a failure it is as the call left it.
-#[tactic(auto, unfolding(crate::specs::Epoch::process_decryption, crate::specs::Epoch::entry_after, epochwords::specs::Words::store_decryption, steps::specs::Runs::onward, steps::specs::Runs::onward_as))]
+#[tactic(auto, unfolding(crate::specs::Epoch::process_decryption, crate::specs::Epoch::entry_after, steps::specs::Runs::onward, steps::specs::Runs::onward_as))]
 fn process_decryption(
     epoch: &mut [u64],
     net: NetworkInfo,
@@ -63,20 +62,11 @@ fn process_decryption(
     requires { EpochWords net.num_nodes epoch.old × (p < net.num_nodes) }
     ensures { (t : Tape) → left_reading epoch.new result t ≡ process_decryption net p epoch.old (ends (verdict_of called) td.now t) }
 {
-    let n = net.num_nodes;
-    match called.unwrap_or(None) {
-        Some(plaintext) => {
-            store_entry(
-                epoch,
-                n,
-                p,
-                ENTRY_COMPLETE,
-                plaintext,
-                ThresholdDecrypt::new(),
-            )
-        }
-        None => store_entry(epoch, n, p, ENTRY_ONGOING, 0, *td),
-    }
+    let state = match called.unwrap_or(None) {
+        Some(plaintext) => DecryptionState::Complete(plaintext),
+        None => DecryptionState::Ongoing(*td),
+    };
+    store_decryption(epoch, net.num_nodes, p, state);
     called?;
     Ok(())
 }
@@ -104,7 +94,7 @@ fn input_ciphertext(
 }
 
 // Hands the ciphertext to the entry of proposer p, unless that asks nothing any more.
-#[tactic(auto, unfolding(crate::specs::Epoch::call_entry, epochwords::specs::Words::asks, steps::specs::Steps::put_all))]
+#[tactic(auto, unfolding(crate::specs::Epoch::call_entry, steps::specs::Steps::put_all))]
 fn input_entry(
     epoch: &mut [u64],
     net: NetworkInfo,
@@ -118,18 +108,16 @@ fn input_entry(
         ≡ leaves (out_of writer.old) (call_entry net p (input_ciphertext net p value) epoch.old reader.old) }
     ensures table { same_table writer.old writer.new }
 {
-    let n = net.num_nodes;
-    if !asks(load_tag(epoch, n, p)) {
+    let Some(mut td) = open_entry(epoch, net.num_nodes, p) else {
         return Ok(());
-    }
-    let mut td = load_entry(epoch, n, p);
+    };
     let called = input_ciphertext(&mut td, net, p, value, reader, writer);
     process_decryption(epoch, net, p, &td, called)
 }
 
 // Hands a share to the entry of proposer p, unless that asks nothing any more. It differs from `input_entry` in its call; with the call as
 // a closure one contract for both would have to speak of what any closure leaves.
-#[tactic(auto, unfolding(crate::specs::Epoch::call_entry, epochwords::specs::Words::asks, steps::specs::Steps::put_all))]
+#[tactic(auto, unfolding(crate::specs::Epoch::call_entry, steps::specs::Steps::put_all))]
 fn share_entry(
     epoch: &mut [u64],
     net: NetworkInfo,
@@ -144,11 +132,9 @@ fn share_entry(
         ≡ leaves (out_of writer.old) (call_entry net p (handle_share net p sender share) epoch.old reader.old) }
     ensures table { same_table writer.old writer.new }
 {
-    let n = net.num_nodes;
-    if !asks(load_tag(epoch, n, p)) {
+    let Some(mut td) = open_entry(epoch, net.num_nodes, p) else {
         return Ok(());
-    }
-    let mut td = load_entry(epoch, n, p);
+    };
     let called = td.handle_message(net, p, sender, share, reader, writer);
     process_decryption(epoch, net, p, &td, called)
 }
@@ -235,20 +221,19 @@ fn unexpected_from(n: usize, td: &ThresholdDecrypt, writer: &mut Writer)
 }
 
 // The faults of the senders of shares for proposer p, where its decryption is ongoing.
-#[tactic(auto, unfolding(crate::specs::Epoch::unexpected_shares, epochwords::specs::Words::load_decryption, steps::specs::Steps::put_all))]
+#[tactic(auto, unfolding(crate::specs::Epoch::unexpected_shares, steps::specs::Steps::put_all))]
 fn unexpected_shares(epoch: &[u64], n: usize, p: usize, writer: &mut Writer)
     requires { EpochWords n epoch.now × (p < n) }
     ensures step { out_of writer.new ≡ put_all (out_of writer.old) (unexpected_shares n (load_decryption n epoch.now p)) }
     ensures table { same_table writer.old writer.new }
 {
-    if load_tag(epoch, n, p) == ENTRY_ONGOING {
-        let td = load_instance(epoch, n, p);
+    if let DecryptionState::Ongoing(td) = load_decryption(epoch, n, p) {
         unexpected_from(n, &td, writer);
     }
 }
 
 // The end of `Done` for proposer p: its proposal is dropped, and, where it was not accepted, its entry, with a fault 2 for each share.
-#[tactic(auto, unfolding(crate::specs::Epoch::finish_at, epochwords::specs::Words::is_accepted, epochwords::specs::Words::store_decryption, steps::specs::Steps::put_all))]
+#[tactic(auto, unfolding(crate::specs::Epoch::finish_at, epochwords::specs::Words::is_accepted, steps::specs::Steps::put_all))]
 fn finish_at(epoch: &mut [u64], net: NetworkInfo, p: usize, writer: &mut Writer)
     requires { EpochWords net.num_nodes epoch.old × (p < net.num_nodes) }
     ensures run { (t : Tape) → left epoch.new (Ok tt) t writer.new ≡ leaves (out_of writer.old) (finish_at net p epoch.old t) }
@@ -261,7 +246,7 @@ fn finish_at(epoch: &mut [u64], net: NetworkInfo, p: usize, writer: &mut Writer)
     }
     unexpected_shares(epoch, n, p, writer);
     drop_proposal(epoch, n, p);
-    store_entry(epoch, n, p, ENTRY_NONE, 0, ThresholdDecrypt::new());
+    store_decryption(epoch, n, p, DecryptionState::Missing);
 }
 
 // The end of `Done`, by rising proposer.
@@ -277,7 +262,7 @@ fn finish(epoch: &mut [u64], net: NetworkInfo, writer: &mut Writer)
 }
 
 // Handles the contribution of proposer p, and accepts it once that went well. In a plain epoch it is its own plaintext.
-#[tactic(auto, unfolding(crate::specs::Epoch::handle_contribution, epochwords::specs::Words::store_decryption, steps::specs::Runs::onward, steps::specs::Runs::onward_as, steps::specs::Steps::put_all))]
+#[tactic(auto, unfolding(crate::specs::Epoch::handle_contribution, steps::specs::Runs::onward, steps::specs::Runs::onward_as, steps::specs::Steps::put_all))]
 fn handle_contribution(
     epoch: &mut [u64],
     net: NetworkInfo,
@@ -296,7 +281,7 @@ fn handle_contribution(
     if encrypted {
         send_decryption_share(epoch, net, p, value, reader, writer)?;
     } else {
-        store_entry(epoch, n, p, ENTRY_COMPLETE, value, ThresholdDecrypt::new());
+        store_decryption(epoch, n, p, DecryptionState::Complete(value));
     }
     accept(epoch, p);
     Ok(())

@@ -1,7 +1,8 @@
 -- Laws for the code that loads and stores decryption entries. Assumes nothing.
 use Prim.Native.Nat.{ℕ, zero, suc, ◌+◌, ◌-◌, ◌*◌, ◌<◌, ◌≤◌}
 use mathlib.Core.Path.{◌≡◌, refl, sym}
-use mathlib.Core.Bool.{Bool, true, false}
+use mathlib.Core.Bool.{Bool, true, false, cond, ◌||◌}
+use lib.Dec.{eqb}
 use mathlib.Core.List.{List, [], ◌∷◌, ◌++◌, append_assoc}
 use native.Mathlib.Omega.{arith}
 use native.Mathlib.Nat.{mul-le-mul_right, suc-mul}
@@ -11,7 +12,9 @@ use Rattle.std.proofs.lemmas.List.{drop-replicate}
 use borrow.Rule.Slice.PartMut.{put_mid}
 use mir.Val.{bool_byte}
 use Rattle.subset.specs.Words.{record_at, epoch_length}
-use Rattle.epochwords.specs.Words.{share_at, shares_from, set_shares, flag}
+use Rattle.decryption.specs.declared.ThresholdDecrypt.{ThresholdDecrypt}
+use Rattle.decryption.specs.Decrypt.{new}
+use Rattle.epochwords.specs.Words.{missing, ongoing, complete, decryption_at, plaintext_at, share_at, shares_from, asks, load_instance, load_entry, load_decryption, set_shares, flag}
 
 -- before the first turn of a loop, n are left
 pub all_left : (n : ℕ) → n - 0 ≡ n
@@ -77,3 +80,37 @@ module _ (n p : ℕ) where
 pub flag_is : (b : Bool) → bool_byte b ≡ flag b
 flag_is true = refl
 flag_is false = refl
+
+-- AN ENTRY that is loaded: whether it asks, and for which instance
+module _ (n p : ℕ) (w : List ℕ) where
+  abbrev tag : ℕ
+  tag = get_or w (decryption_at n p) 0
+
+  pub open_missing : missing ≡ load_decryption n w p → (asks tag ≡ true) × (new ≡ load_entry n w p)
+  unfolding load_decryption asks load_entry
+  open_missing = go (eqb tag 0) (eqb tag 1)
+    where
+      go : (a b : Bool) → missing ≡ cond a missing (cond b (ongoing (load_instance n w p)) (complete (get_or w (plaintext_at n p) 0)))
+          → (a || b ≡ true) × (new ≡ cond a new (load_instance n w p))
+      go true b e = (refl, refl)
+      go false true e = cc
+      go false false e = cc
+
+  pub open_ongoing : (td : ThresholdDecrypt) → ongoing td ≡ load_decryption n w p → (asks tag ≡ true) × (td ≡ load_entry n w p)
+  unfolding load_decryption asks load_entry
+  open_ongoing td = go (eqb tag 0) (eqb tag 1)
+    where
+      go : (a b : Bool) → ongoing td ≡ cond a missing (cond b (ongoing (load_instance n w p)) (complete (get_or w (plaintext_at n p) 0)))
+          → (a || b ≡ true) × (td ≡ cond a new (load_instance n w p))
+      go true b e = cc
+      go false true e = (refl, cc)
+      go false false e = cc
+
+  pub open_complete : (x : ℕ) → complete x ≡ load_decryption n w p → asks tag ≡ false
+  unfolding load_decryption asks
+  open_complete x = go (eqb tag 0) (eqb tag 1)
+    where
+      go : (a b : Bool) → complete x ≡ cond a missing (cond b (ongoing (load_instance n w p)) (complete (get_or w (plaintext_at n p) 0))) → a || b ≡ false
+      go true b e = cc
+      go false true e = cc
+      go false false e = refl

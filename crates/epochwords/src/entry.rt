@@ -1,9 +1,9 @@
 // The decryption entries in the words of an epoch: tag, plaintext and instance of a proposer's entry beside each other.
-ghost use Rattle.std.specs.Prelude.{◌≡◌, ◌<◌, get_or};
-ghost use Rattle.epochwords.specs.Shape.{EpochWords};
-ghost use Rattle.epochwords.specs.Words.{decryption_at, load_instance, load_entry, set_shares, store_entry};
+ghost use Rattle.std.specs.Prelude.{◌≡◌, ◌<◌, true, false, get_or, MatchOption};
+ghost use Rattle.epochwords.specs.Shape.{EpochWords, decryption_of};
+ghost use Rattle.epochwords.specs.Words.{decryption_at, asks, load_instance, load_entry, load_decryption, set_shares, store_entry, store_decryption};
 
-use crate::tags::ENTRY_NONE;
+use crate::tags::{ENTRY_COMPLETE, ENTRY_NONE, ENTRY_ONGOING};
 use crate::words::{
     CIPHERTEXT_FIELD, DECRYPTION_FIELD, HAD_INPUT_FIELD, PLAINTEXT_FIELD, SHARES_FIELD,
     TERMINATED_FIELD,
@@ -11,16 +11,16 @@ use crate::words::{
 use decryption::ThresholdDecrypt;
 use subset::words::{RECORD_FIELDS, RECORDS_AT};
 
-// The tag of proposer p's entry.
-pub fn load_tag(epoch: &[u64], n: usize, p: usize) -> u64
-    requires { EpochWords n epoch.now × (p < n) }
-    ensures { result ≡ get_or epoch.now (decryption_at n p) 0 }
-{
-    epoch[RECORDS_AT + p * (RECORD_FIELDS + n) + DECRYPTION_FIELD]
+// The entry of a proposer: there is none, `DecryptionState::Ongoing`, or `DecryptionState::Complete` with the plaintext.
+#[derive(Clone, Copy)]
+pub enum DecryptionState {
+    Missing,
+    Ongoing(ThresholdDecrypt),
+    Complete(u64),
 }
 
-// Its instance. The words have room for n shares, an instance for 16.
-pub fn load_instance(epoch: &[u64], n: usize, p: usize) -> ThresholdDecrypt
+// The instance in the words of proposer p. They have room for n shares, an instance for 16.
+fn load_instance(epoch: &[u64], n: usize, p: usize) -> ThresholdDecrypt
     requires { EpochWords n epoch.now × (p < n) }
     ensures { result ≡ load_instance n epoch.now p }
 {
@@ -36,15 +36,31 @@ pub fn load_instance(epoch: &[u64], n: usize, p: usize) -> ThresholdDecrypt
     }
 }
 
-// The instance that a share or a ciphertext comes to: a new one where there is no entry.
-pub fn load_entry(epoch: &[u64], n: usize, p: usize) -> ThresholdDecrypt
+// The entry of proposer p. A tag above the last reads as the last.
+#[tactic(auto, unfolding(crate::specs::Words::load_decryption))]
+pub fn load_decryption(epoch: &[u64], n: usize, p: usize) -> DecryptionState
     requires { EpochWords n epoch.now × (p < n) }
-    ensures { result ≡ load_entry n epoch.now p }
+    ensures { decryption_of result ≡ load_decryption n epoch.now p }
 {
-    if load_tag(epoch, n, p) == ENTRY_NONE {
-        return ThresholdDecrypt::new();
+    let at = RECORDS_AT + p * (RECORD_FIELDS + n);
+    match epoch[at + DECRYPTION_FIELD] {
+        ENTRY_NONE => DecryptionState::Missing,
+        ENTRY_ONGOING => DecryptionState::Ongoing(load_instance(epoch, n, p)),
+        _ => DecryptionState::Complete(epoch[at + PLAINTEXT_FIELD]),
     }
-    load_instance(epoch, n, p)
+}
+
+// The instance that a share or a ciphertext comes to: a new one where there is no entry, and none where the entry asks nothing any more.
+pub fn open_entry(epoch: &[u64], n: usize, p: usize) -> Option<ThresholdDecrypt>
+    requires { EpochWords n epoch.now × (p < n) }
+    ensures { MatchOption result (asks (get_or epoch.now (decryption_at n p) 0) ≡ false)
+        (λ td. (asks (get_or epoch.now (decryption_at n p) 0) ≡ true) × (td ≡ load_entry n epoch.now p)) }
+{
+    match load_decryption(epoch, n, p) {
+        DecryptionState::Missing => Some(ThresholdDecrypt::new()),
+        DecryptionState::Ongoing(td) => Some(td),
+        DecryptionState::Complete(_) => None,
+    }
 }
 
 // Sets its shares.
@@ -57,7 +73,7 @@ fn store_shares(epoch: &mut [u64], n: usize, p: usize, shares: [u64; 16])
 }
 
 // Sets all words of proposer p's entry.
-pub fn store_entry(
+fn store_entry(
     epoch: &mut [u64],
     n: usize,
     p: usize,
@@ -76,4 +92,31 @@ pub fn store_entry(
     epoch[at + TERMINATED_FIELD] = u64::from(td.terminated);
     let shares = td.shares;
     store_shares(epoch, n, p, shares);
+}
+
+// Stores the entry of proposer p.
+#[tactic(auto, unfolding(crate::specs::Words::store_decryption))]
+pub fn store_decryption(epoch: &mut [u64], n: usize, p: usize, state: DecryptionState)
+    requires { EpochWords n epoch.old × (p < n) }
+    ensures { epoch.new ≡ store_decryption n epoch.old p (decryption_of state) }
+{
+    match state {
+        DecryptionState::Missing => store_entry(
+            epoch,
+            n,
+            p,
+            ENTRY_NONE,
+            0,
+            ThresholdDecrypt::new(),
+        ),
+        DecryptionState::Ongoing(td) => store_entry(epoch, n, p, ENTRY_ONGOING, 0, td),
+        DecryptionState::Complete(plaintext) => store_entry(
+            epoch,
+            n,
+            p,
+            ENTRY_COMPLETE,
+            plaintext,
+            ThresholdDecrypt::new(),
+        ),
+    }
 }
