@@ -6,7 +6,7 @@ ghost use Rattle.epochwords.specs.Words.{decryption_at, asks, load_instance, loa
 use crate::tags::{ENTRY_COMPLETE, ENTRY_NONE, ENTRY_ONGOING};
 use crate::words::{
     CIPHERTEXT_FIELD, DECRYPTION_FIELD, HAD_INPUT_FIELD, PLAINTEXT_FIELD, SHARES_FIELD,
-    TERMINATED_FIELD,
+    TERMINATED_FIELD, copy,
 };
 use decryption::ThresholdDecrypt;
 use subset::words::{RECORD_FIELDS, RECORDS_AT};
@@ -27,7 +27,7 @@ fn load_instance(epoch: &[u64], n: usize, p: usize) -> ThresholdDecrypt
     let at = RECORDS_AT + p * (RECORD_FIELDS + n);
     let first = at + SHARES_FIELD;
     let mut shares = [0u64; 16];
-    shares[..n].copy_from_slice(&epoch[first..first + n]);
+    copy(&epoch[first..first + n], &mut shares[..n]);
     ThresholdDecrypt {
         ciphertext: epoch[at + CIPHERTEXT_FIELD],
         shares,
@@ -69,7 +69,7 @@ fn store_shares(epoch: &mut [u64], n: usize, p: usize, shares: [u64; 16])
     ensures { epoch.new ≡ set_shares n p n 0 shares epoch.old }
 {
     let first = RECORDS_AT + p * (RECORD_FIELDS + n) + SHARES_FIELD;
-    epoch[first..first + n].copy_from_slice(&shares[..n]);
+    copy(&shares[..n], &mut epoch[first..first + n]);
 }
 
 // Sets all words of proposer p's entry.

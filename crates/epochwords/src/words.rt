@@ -1,4 +1,5 @@
 // Where the words of an epoch are (docs/STATE.md), by name; those that the subset uses are in its own words.rt.
+ghost use Rattle.std.specs.Prelude.{◌≡◌, length};
 
 // The epoch's own words.
 pub const STATUS_AT: usize = 0;
@@ -27,3 +28,13 @@ pub const HAD_INPUT_FIELD: usize = 5;
 pub const TERMINATED_FIELD: usize = 6;
 
 pub const SHARES_FIELD: usize = 8;
+
+// Copies all words, one by one: the archive may want `memcpy` of the C library, and std's `copy_from_slice` wants `memmove`.
+pub fn copy(from: &[u64], to: &mut [u64])
+    requires { length from.now ≡ length to.old }
+    ensures { to.new ≡ from.now }
+{
+    for i in 0..to.len() {
+        to[i] = from[i];
+    }
+}

@@ -8,6 +8,7 @@ ghost use Rattle.state.specs.Shape.{StateWords, Divides};
 
 use crate::schedule::schedule_of;
 use epochwords::SubsetHandlingStrategy;
+use epochwords::words::copy;
 use network::network_info::NetworkInfo;
 use subset::words::{RECORD_FIELDS, RECORDS_AT};
 
@@ -116,7 +117,7 @@ pub fn load(state: &[u64], epoch: u64, words: &mut [u64])
 {
     let at = place_of(state, epoch);
     let end = at + words.len();
-    words.copy_from_slice(&state[at..end]);
+    copy(&state[at..end], words);
 }
 
 // Copies the words of an epoch to their place in the state.
@@ -127,7 +128,7 @@ pub fn store(state: &mut [u64], epoch: u64, words: &[u64])
 {
     let at = place_of(state, epoch);
     let end = at + words.len();
-    state[at..end].copy_from_slice(words);
+    copy(words, &mut state[at..end]);
 }
 
 // No epoch lives at the place of this one any more.

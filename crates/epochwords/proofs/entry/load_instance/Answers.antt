@@ -6,4 +6,4 @@ use Rattle.epochwords.proofs.entry.load_instance.Goals as goal
 
 pub returns : goal.returns
 unfolding load_instance
-returns c = rw (loaded c.args.n c.args.p c.requires.0.few c.requires.1 c.args.epoch.now c.requires.0.long c.copy_from_slice.new.self _ refl c.copy_from_slice.ensures.after)
+returns c = rw (loaded c.args.n c.args.p c.requires.0.few c.requires.1 c.args.epoch.now c.requires.0.long c.copy.new.to _ refl c.copy.ensures)

@@ -5,4 +5,4 @@ use Rattle.epochwords.proofs.EntryCode.{stored}
 use Rattle.epochwords.proofs.entry.store_shares.Goals as goal
 
 pub returns : goal.returns
-returns c = stored c.args.n c.args.p c.requires.0.few c.requires.1 c.args.epoch.now c.requires.0.long _ c.args.shares _ refl (omega (arith, c.requires.0.few)) c.copy_from_slice.ensures.after
+returns c = stored c.args.n c.args.p c.requires.0.few c.requires.1 c.args.epoch.now c.requires.0.long _ c.args.shares _ refl (omega (arith, c.requires.0.few)) c.copy.ensures

@@ -4,4 +4,4 @@ use Rattle.state.proofs.WordsCode.{part_words}
 use Rattle.state.proofs.words.load.Goals as goal
 
 pub returns : goal.returns
-returns c = c.copy_from_slice.ensures.after ∙ (part_words c.args.state.now c.args.epoch c.place_of-at.result _ c.place_of-at.ensures c.requires.1)
+returns c = c.copy.ensures ∙ (part_words c.args.state.now c.args.epoch c.place_of-at.result _ c.place_of-at.ensures c.requires.1)
