@@ -27,6 +27,15 @@ use steps::reader::{Content, Reader};
 use steps::step::Writer;
 use subset::words::{ARRIVAL_FIELD, COUNT_AT, DECIDED_AT, PROPOSAL_FIELD, VALUE_FIELD, record_at};
 
+// What an epoch runs with: its network, when contributions are handled, and whether they are encrypted.
+#[derive(Clone, Copy)]
+pub struct Setting {
+    pub net: NetworkInfo,
+    pub strategy: SubsetHandlingStrategy,
+    pub encrypted: bool,
+    ghost network: { Network net },
+}
+
 // What comes to the subset: the own proposal, or a message for a proposer.
 #[derive(Clone, Copy)]
 pub enum SubsetInput {
@@ -265,21 +274,20 @@ fn finish(epoch: &mut [u64], net: NetworkInfo, writer: &mut Writer)
 #[tactic(auto, unfolding(crate::specs::Epoch::handle_contribution, steps::specs::Runs::onward, steps::specs::Runs::onward_as, steps::specs::Steps::put_all))]
 fn handle_contribution(
     epoch: &mut [u64],
-    net: NetworkInfo,
-    encrypted: bool,
+    setting: Setting,
     p: usize,
     value: u64,
     reader: &mut Reader,
     writer: &mut Writer,
 ) -> Result<(), Stop>
-    requires { Network net × EpochWords net.num_nodes epoch.old × (p < net.num_nodes) }
-    ensures run { (strategy : SubsetHandlingStrategy) → left epoch.new result reader.new writer.new
-        ≡ leaves (out_of writer.old) (handle_contribution net strategy encrypted p value epoch.old reader.old) }
+    requires { EpochWords setting.net.num_nodes epoch.old × (p < setting.net.num_nodes) }
+    ensures run { left epoch.new result reader.new writer.new
+        ≡ leaves (out_of writer.old) (handle_contribution setting.net setting.strategy setting.encrypted p value epoch.old reader.old) }
     ensures table { same_table writer.old writer.new }
 {
-    let n = net.num_nodes;
-    if encrypted {
-        send_decryption_share(epoch, net, p, value, reader, writer)?;
+    let n = setting.net.num_nodes;
+    if setting.encrypted {
+        send_decryption_share(epoch, setting.net, p, value, reader, writer)?;
     } else {
         store_decryption(epoch, n, p, DecryptionState::Complete(value));
     }
@@ -307,22 +315,21 @@ fn value_of(epoch: &[u64], n: usize, p: usize) -> u64
 #[tactic(auto, unfolding(crate::specs::Epoch::handle_from, steps::specs::Steps::put_all))]
 fn handle_each(
     epoch: &mut [u64],
-    net: NetworkInfo,
-    encrypted: bool,
+    setting: Setting,
     reader: &mut Reader,
     writer: &mut Writer,
 ) -> Result<(), Stop>
-    requires { Network net × EpochWords net.num_nodes epoch.old × Listed net.num_nodes epoch.old }
-    ensures run { (strategy : SubsetHandlingStrategy) → left epoch.new result reader.new writer.new
-        ≡ leaves (out_of writer.old) (handle_from net strategy encrypted (count_of epoch.old) 0 epoch.old reader.old) }
+    requires { EpochWords setting.net.num_nodes epoch.old × Listed setting.net.num_nodes epoch.old }
+    ensures run { left epoch.new result reader.new writer.new
+        ≡ leaves (out_of writer.old) (handle_from setting.net setting.strategy setting.encrypted (count_of epoch.old) 0 epoch.old reader.old) }
     ensures table { same_table writer.old writer.new }
 {
-    let n = net.num_nodes;
+    let n = setting.net.num_nodes;
     let count = epoch[COUNT_AT] as usize;
     for i in 0..count {
         let p = contributor(epoch, n, i);
         let value = value_of(epoch, n, p);
-        handle_contribution(epoch, net, encrypted, p, value, reader, writer)?;
+        handle_contribution(epoch, setting, p, value, reader, writer)?;
     }
     Ok(())
 }
@@ -354,18 +361,17 @@ fn first_contributions(epoch: &mut [u64], n: usize, k: usize)
 #[tactic(auto, unfolding(crate::specs::Epoch::handle_contributions))]
 fn handle_contributions(
     epoch: &mut [u64],
-    net: NetworkInfo,
-    encrypted: bool,
+    setting: Setting,
     reader: &mut Reader,
     writer: &mut Writer,
 ) -> Result<(), Stop>
-    requires { Network net × EpochWords net.num_nodes epoch.old × Listed net.num_nodes epoch.old }
-    ensures run { (strategy : SubsetHandlingStrategy) → left epoch.new result reader.new writer.new
-        ≡ leaves (out_of writer.old) (handle_contributions net strategy encrypted epoch.old reader.old) }
+    requires { EpochWords setting.net.num_nodes epoch.old × Listed setting.net.num_nodes epoch.old }
+    ensures run { left epoch.new result reader.new writer.new
+        ≡ leaves (out_of writer.old) (handle_contributions setting.net setting.strategy setting.encrypted epoch.old reader.old) }
     ensures table { same_table writer.old writer.new }
 {
-    let handled = handle_each(epoch, net, encrypted, reader, writer);
-    first_contributions(epoch, net.num_nodes, 0);
+    let handled = handle_each(epoch, setting, reader, writer);
+    first_contributions(epoch, setting.net.num_nodes, 0);
     handled
 }
 
@@ -384,24 +390,22 @@ fn handles_now(strategy: SubsetHandlingStrategy, done: bool) -> bool
 #[tactic(auto, using(steps::proofs::RunLaws::leaves_before), unfolding(crate::specs::Epoch::process_subset, steps::specs::Runs::onward, steps::specs::Runs::onward_as, steps::specs::Steps::put_all))]
 fn process_subset(
     epoch: &mut [u64],
-    net: NetworkInfo,
-    strategy: SubsetHandlingStrategy,
-    encrypted: bool,
+    setting: Setting,
     done: bool,
     reader: &mut Reader,
     writer: &mut Writer,
 ) -> Result<(), Stop>
-    requires { Network net × EpochWords net.num_nodes epoch.old × Listed net.num_nodes epoch.old }
+    requires { EpochWords setting.net.num_nodes epoch.old × Listed setting.net.num_nodes epoch.old }
     ensures run { left epoch.new result reader.new writer.new
-        ≡ leaves (out_of writer.old) (process_subset net strategy encrypted done epoch.old reader.old) }
+        ≡ leaves (out_of writer.old) (process_subset setting.net setting.strategy setting.encrypted done epoch.old reader.old) }
     ensures table { same_table writer.old writer.new }
 {
-    if handles_now(strategy, done) {
-        handle_contributions(epoch, net, encrypted, reader, writer)?;
+    if handles_now(setting.strategy, done) {
+        handle_contributions(epoch, setting, reader, writer)?;
     }
     if done {
         subset_complete(epoch);
-        finish(epoch, net, writer);
+        finish(epoch, setting.net, writer);
     }
     Ok(())
 }
@@ -451,20 +455,20 @@ fn input_subset(
 #[tactic(auto, unfolding(crate::specs::Epoch::handed_up, steps::specs::Steps::put_all))]
 fn hand_up(
     epoch: &mut [u64],
-    net: NetworkInfo,
+    setting: Setting,
     input: SubsetInput,
     reader: &mut Reader,
     writer: &mut Writer,
 ) -> Result<bool, Stop>
-    requires { Network net × EpochWords net.num_nodes epoch.old × Listed net.num_nodes epoch.old × Names input net.num_nodes }
-    ensures run { (strategy : SubsetHandlingStrategy) (encrypted : Bool) → left epoch.new result reader.new writer.new
-        ≡ leaves (out_of writer.old) (handed_up net strategy encrypted (count_of epoch.old) (subset_call net input epoch.old reader.old).verdict (subset_call net input epoch.old reader.old)) }
+    requires { EpochWords setting.net.num_nodes epoch.old × Listed setting.net.num_nodes epoch.old × Names input setting.net.num_nodes }
+    ensures run { left epoch.new result reader.new writer.new
+        ≡ leaves (out_of writer.old) (handed_up setting.net setting.strategy setting.encrypted (count_of epoch.old) (subset_call setting.net input epoch.old reader.old).verdict (subset_call setting.net input epoch.old reader.old)) }
     ensures table { same_table writer.old writer.new }
 {
     let count = epoch[COUNT_AT] as usize;
-    let called = input_subset(epoch, net, input, reader, writer);
+    let called = input_subset(epoch, setting.net, input, reader, writer);
     if called.is_err() {
-        first_contributions(epoch, net.num_nodes, count);
+        first_contributions(epoch, setting.net.num_nodes, count);
     }
     called
 }
@@ -473,45 +477,41 @@ fn hand_up(
 #[tactic(auto, using(crate::proofs::CallCode::subset_onward, steps::proofs::RunLaws::leaves_before), unfolding(crate::specs::Epoch::call_subset, steps::specs::Runs::onward, steps::specs::Runs::onward_as, steps::specs::Steps::put_all))]
 fn call_subset(
     epoch: &mut [u64],
-    net: NetworkInfo,
-    strategy: SubsetHandlingStrategy,
-    encrypted: bool,
+    setting: Setting,
     input: SubsetInput,
     reader: &mut Reader,
     writer: &mut Writer,
 ) -> Result<(), Stop>
-    requires { Network net × EpochWords net.num_nodes epoch.old × Listed net.num_nodes epoch.old × Names input net.num_nodes }
+    requires { EpochWords setting.net.num_nodes epoch.old × Listed setting.net.num_nodes epoch.old × Names input setting.net.num_nodes }
     ensures run { left epoch.new result reader.new writer.new
-        ≡ leaves (out_of writer.old) (subset_run net strategy encrypted input epoch.old reader.old) }
+        ≡ leaves (out_of writer.old) (subset_run setting.net setting.strategy setting.encrypted input epoch.old reader.old) }
     ensures table { same_table writer.old writer.new }
 {
     serialise(input, reader)?;
     if epoch[STATUS_AT] == STATUS_COMPLETE {
         return Ok(());
     }
-    let done = hand_up(epoch, net, input, reader, writer)?;
-    process_subset(epoch, net, strategy, encrypted, done, reader, writer)
+    let done = hand_up(epoch, setting, input, reader, writer)?;
+    process_subset(epoch, setting, done, reader, writer)
 }
 
 // `propose` and `handle_message_content`, by what comes: there is one way through the subset, so that the compiler has one frame for it.
 pub fn handle(
     epoch: &mut [u64],
-    net: NetworkInfo,
-    strategy: SubsetHandlingStrategy,
-    encrypted: bool,
+    setting: Setting,
     input: Input,
     reader: &mut Reader,
     writer: &mut Writer,
 ) -> Result<(), Stop>
-    requires { Network net × EpochWords net.num_nodes epoch.old × Listed net.num_nodes epoch.old × Comes input net.num_nodes }
+    requires { EpochWords setting.net.num_nodes epoch.old × Listed setting.net.num_nodes epoch.old × Comes input setting.net.num_nodes }
     ensures run { left epoch.new result reader.new writer.new
-        ≡ leaves (out_of writer.old) (input_run net strategy encrypted input epoch.old reader.old) }
+        ≡ leaves (out_of writer.old) (input_run setting.net setting.strategy setting.encrypted input epoch.old reader.old) }
     ensures table { same_table writer.old writer.new }
 {
     match input {
-        Input::Subset(given) => call_subset(epoch, net, strategy, encrypted, given, reader, writer),
+        Input::Subset(given) => call_subset(epoch, setting, given, reader, writer),
         Input::Share(sender, p, share) => {
-            handle_decryption_share(epoch, net, sender, p, share, reader, writer)
+            handle_decryption_share(epoch, setting.net, sender, p, share, reader, writer)
         }
     }
 }

@@ -21,7 +21,7 @@ ghost use Rattle.epoch.specs.Outcomes.{Comes};
 ghost use Rattle.epochwords.specs.Shape.{EpochWords};
 
 use epoch::MessageContent;
-use epoch::epoch_state::{Input, SubsetInput, handle, new_epoch};
+use epoch::epoch_state::{Input, Setting, SubsetInput, handle, new_epoch};
 use epochwords::SubsetHandlingStrategy;
 use epochwords::batch::{is_ready, output_batch};
 use epochwords::range::epoch_in_range;
@@ -70,13 +70,11 @@ impl TryFrom<u8> for Kind {
     }
 }
 
-// A network, and how its calls are handled.
+// What the calls that follow run with: at most 7 nodes.
 #[derive(Clone, Copy)]
-struct Setting {
-    net: NetworkInfo,
-    strategy: SubsetHandlingStrategy,
-    encrypted: bool,
-    ghost in_range: { Network net × (net.num_nodes ≤ 7) },
+struct SmallNetwork {
+    setting: Setting,
+    ghost few: { setting.net.num_nodes ≤ 7 },
 }
 
 // Numbers with which there is no such network.
@@ -84,7 +82,7 @@ struct Setting {
 struct OutOfRange;
 
 // From the numbers of a network line.
-impl TryFrom<[u64; 6]> for Setting {
+impl TryFrom<[u64; 6]> for SmallNetwork {
     type Error = OutOfRange;
 
     fn try_from(given: [u64; 6]) -> Result<Self, OutOfRange> {
@@ -98,11 +96,12 @@ impl TryFrom<[u64; 6]> for Setting {
             our_id: own as usize,
             has_key: key != 0,
         };
-        Ok(Setting {
+        let setting = Setting {
             net,
             strategy: strategy_of(strategy),
             encrypted: encrypted != 0,
-        })
+        };
+        Ok(SmallNetwork { setting })
     }
 }
 
@@ -115,7 +114,7 @@ struct Call {
     sender: usize,
     proposer: usize,
     message: Option<MessageContent>,
-    ghost nodes: { (sender < how.net.num_nodes) × (proposer < how.net.num_nodes) },
+    ghost nodes: { (sender < how.net.num_nodes) × (proposer < how.net.num_nodes) × (how.net.num_nodes ≤ 7) },
 }
 
 // Why a call ends before it is done.
@@ -163,9 +162,9 @@ fn message_of(content: u64, item: u64) -> Option<MessageContent> {
 }
 
 impl Call {
-    fn propose(how: Setting, epoch: u64, current: u64) -> Self {
+    fn propose(network: SmallNetwork, epoch: u64, current: u64) -> Self {
         Call {
-            how,
+            how: network.setting,
             epoch,
             current: current != 0,
             sender: 0,
@@ -175,10 +174,11 @@ impl Call {
     }
 
     // From the numbers of a message line, if its nodes are in the network.
-    fn message(how: Setting, given: [u64; 6]) -> Option<Self> {
+    fn message(network: SmallNetwork, given: [u64; 6]) -> Option<Self> {
         let [epoch, current, sender, content, proposer, item] = given;
-        let net = how.net;
-        if net.num_nodes <= sender as usize || net.num_nodes <= proposer as usize {
+        let how = network.setting;
+        let nodes = how.net.num_nodes;
+        if nodes <= sender as usize || nodes <= proposer as usize {
             return None;
         }
         Some(Call {
@@ -227,14 +227,10 @@ fn enter(epoch: &mut [u64], call: Call, reader: &mut Reader, writer: &mut Writer
     requires { EpochWords call.how.net.num_nodes epoch.old }
 {
     let how = call.how;
-    let net = how.net;
-    let strategy = how.strategy;
-    let secret = how.encrypted;
-    if !epoch_in_range(epoch, strategy, net.num_nodes) {
+    if !epoch_in_range(epoch, how.strategy, how.net.num_nodes) {
         return Err(End::NotAState);
     }
-    let input = call.input();
-    handle(epoch, net, strategy, secret, input, reader, writer)?;
+    handle(epoch, how, call.input(), reader, writer)?;
     Ok(())
 }
 
@@ -355,7 +351,7 @@ fn sparse(given: &[u64]) -> [u64; 128] {
 struct Epochs<'a, W> {
     alloc: Global,
     out: &'a mut W,
-    how: Option<Setting>,
+    network: Option<SmallNetwork>,
     words: [u64; 128],
 }
 
@@ -398,22 +394,22 @@ impl<W: Write> Epochs<'_, W> {
     }
 
     fn propose(&mut self, given: &[u64]) -> io::Result<()> {
-        match (self.how, given) {
-            (Some(how), [epoch, current, answers @ ..]) => {
-                self.call(Call::propose(how, *epoch, *current), answers)
+        match (self.network, given) {
+            (Some(network), [epoch, current, answers @ ..]) => {
+                self.call(Call::propose(network, *epoch, *current), answers)
             }
             _ => Ok(()),
         }
     }
 
     fn message(&mut self, given: &[u64]) -> io::Result<()> {
-        let Some(how) = self.how else {
+        let Some(network) = self.network else {
             return Ok(());
         };
         let Some((numbers, answers)) = given.split_first_chunk() else {
             return Ok(());
         };
-        match Call::message(how, *numbers) {
+        match Call::message(network, *numbers) {
             Some(call) => self.call(call, answers),
             None => Ok(()),
         }
@@ -431,7 +427,7 @@ impl<W: Write> Epochs<'_, W> {
         };
         let given = read_numbers(self.alloc, whole, MOST_NUMBERS)?;
         match kind {
-            Kind::Network => self.how = Setting::try_from(first_of(&given)).ok(),
+            Kind::Network => self.network = SmallNetwork::try_from(first_of(&given)).ok(),
             Kind::Words => self.words = sparse(&given),
             Kind::Propose => self.propose(&given)?,
             Kind::Message => self.message(&given)?,
@@ -445,7 +441,7 @@ fn each_line<W: Write>(alloc: Global, text: &[u8], out: &mut W) -> io::Result<()
     let mut epochs = Epochs {
         alloc,
         out,
-        how: None,
+        network: None,
         words: [0; 128],
     };
     for line in text.split_inclusive(|b| *b == b'\n') {

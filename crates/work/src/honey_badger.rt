@@ -12,7 +12,7 @@ ghost use Rattle.work.specs.Work.{built, epoch_call, beside, batches_from, worke
 ghost use Rattle.work.specs.Shape.{CallOk, body_of, input_of, call_work, try_output_batch};
 
 use epoch::MessageContent;
-use epoch::epoch_state::{Input, SubsetInput, handle, new_epoch};
+use epoch::epoch_state::{Input, Setting, SubsetInput, handle, new_epoch};
 use epochwords::batch::{is_ready, output_batch};
 use epochwords::words::{STATUS_AT, STATUS_VACANT};
 use state::words::{
@@ -151,11 +151,12 @@ fn call_body(
     ensures run { left words.new result reader.new writer.new ≡ leaves (out_of writer.old) (body_of call state.now epoch words.old reader.old) }
     ensures table { same_table writer.old writer.new }
 {
-    let net = net_of(state);
-    let strategy = strategy_of(state);
-    let encrypted = encrypted_in(state, epoch);
-    let input = Input::from(call);
-    handle(words, net, strategy, encrypted, input, reader, writer)
+    let setting = Setting {
+        net: net_of(state),
+        strategy: strategy_of(state),
+        encrypted: encrypted_in(state, epoch),
+    };
+    handle(words, setting, Input::from(call), reader, writer)
 }
 
 // The epoch's words are built where there are none, then its own call runs.
