@@ -13,4 +13,4 @@ listed strategy n w b some words answer went_on =
 
 pub handle-requires : goal.handle-requires
 handle-requires c =
-    (c.args.call.how.in_range.0, c.requires, listed _ _ _ _ c.args.call.how.in_range.0.some c.requires c.epoch_in_range.ensures c.if-not-epoch_in_range.false, c.input-input.ensures)
+    (c.requires, listed _ _ _ _ c.args.call.how.network.some c.requires c.epoch_in_range.ensures c.if-not-epoch_in_range.false, c.input.ensures)
