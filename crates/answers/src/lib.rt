@@ -100,7 +100,8 @@ fn may_follow(n: u64, answers: &[u64], own: usize, i: usize, context: u64) -> bo
     )
 }
 
-// Whether the words are an answer table for a network of n nodes. Records off the chain are not looked at.
+// Whether the words are an answer table for a network of n nodes. Records off the chain are not looked at. The loop follows links and counts
+// nothing: an iterator of links would have to carry the context that decides whether there is a next, and its proof, for this one use.
 #[tactic(auto, unfolding(steps::specs::Table::table_ok))]
 pub fn table_ok(n: u64, answers: &[u64]) -> bool
     ensures { result ≡ table_ok n answers.now }

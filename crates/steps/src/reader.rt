@@ -219,7 +219,8 @@ impl<'a> Reader<'a> {
         )
     }
 
-    // Reads the parts of an answer to their end: their last output, with their messages and faults in the step.
+    // Reads the parts of an answer to their end: their last output, with their messages and faults in the step. The loop follows links and
+    // leaves the first record that is no part unread, where an iterator's `next` would have taken it.
     pub fn read_parts(
         &mut self,
         content: Content,

@@ -128,6 +128,8 @@ impl Step {
     }
 }
 
+// Three lists with a kind of their own each, as in the Rust's `Step`: one generic method would need a trait of kinds with three impls, to
+// replace three lines.
 impl Writer<'_> {
     pub fn message(&mut self, kind: MessageKind, a: u64, b: u64)
         ensures step { out_of self.new ≡ put_entry (out_of self.old) (message (message_number kind) a b) }

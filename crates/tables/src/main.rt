@@ -79,7 +79,8 @@ const KINDS: [AnswerKind; 13] = [
     AnswerKind::ContributionReads,
 ];
 
-// What an answer about a node came to: refused, a = 0, or its last output if it had one.
+// What an answer about a node came to: refused, a = 0, or its last output if it had one. As `Result<Option<Option<u64>>, Stop>` the outcomes
+// would have no names, and no `Display` of ours.
 #[derive(Clone, Copy)]
 enum Told {
     Refused,
@@ -98,7 +99,7 @@ impl fmt::Display for Told {
     }
 }
 
-// Kinds 3 and 4 are a broadcast's, 5 to 7 an agreement's.
+// Kinds 3 and 4 are a broadcast's, 5 to 7 an agreement's. No `From`, since neither type is this crate's.
 fn content_of(kind: AnswerKind) -> Content {
     match kind {
         AnswerKind::BroadcastProposal | AnswerKind::BroadcastMessage => Content::Broadcast,
