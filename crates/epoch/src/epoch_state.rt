@@ -75,7 +75,7 @@ fn process_decryption(
         Some(plaintext) => DecryptionState::Complete(plaintext),
         None => DecryptionState::Ongoing(*td),
     };
-    store_decryption(epoch, net.num_nodes, p, state);
+    store_decryption(epoch, net.num_nodes, p, Some(state));
     called?;
     Ok(())
 }
@@ -236,7 +236,7 @@ fn unexpected_shares(epoch: &[u64], n: usize, p: usize, writer: &mut Writer)
     ensures step { out_of writer.new ≡ put_all (out_of writer.old) (unexpected_shares n (load_decryption n epoch.now p)) }
     ensures table { same_table writer.old writer.new }
 {
-    if let DecryptionState::Ongoing(td) = load_decryption(epoch, n, p) {
+    if let Some(DecryptionState::Ongoing(td)) = load_decryption(epoch, n, p) {
         unexpected_from(n, &td, writer);
     }
 }
@@ -255,7 +255,7 @@ fn finish_at(epoch: &mut [u64], net: NetworkInfo, p: usize, writer: &mut Writer)
     }
     unexpected_shares(epoch, n, p, writer);
     drop_proposal(epoch, n, p);
-    store_decryption(epoch, n, p, DecryptionState::Missing);
+    store_decryption(epoch, n, p, None);
 }
 
 // The end of `Done`, by rising proposer.
@@ -289,7 +289,7 @@ fn handle_contribution(
     if setting.encrypted {
         send_decryption_share(epoch, setting.net, p, value, reader, writer)?;
     } else {
-        store_decryption(epoch, n, p, DecryptionState::Complete(value));
+        store_decryption(epoch, n, p, Some(DecryptionState::Complete(value)));
     }
     accept(epoch, p);
     Ok(())

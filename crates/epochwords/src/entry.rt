@@ -9,12 +9,11 @@ use crate::words::{
     TERMINATED_FIELD, copy,
 };
 use decryption::ThresholdDecrypt;
-use subset::words::{RECORD_FIELDS, RECORDS_AT};
+use subset::words::record_at;
 
-// The entry of a proposer: there is none, `DecryptionState::Ongoing`, or `DecryptionState::Complete` with the plaintext.
+// The entry of a proposer who has one: its instance, or the plaintext.
 #[derive(Clone, Copy)]
 pub enum DecryptionState {
-    Missing,
     Ongoing(ThresholdDecrypt),
     Complete(u64),
 }
@@ -24,29 +23,29 @@ fn load_instance(epoch: &[u64], n: usize, p: usize) -> ThresholdDecrypt
     requires { EpochWords n epoch.now × (p < n) }
     ensures { result ≡ load_instance n epoch.now p }
 {
-    let at = RECORDS_AT + p * (RECORD_FIELDS + n);
-    let first = at + SHARES_FIELD;
+    let first = record_at(n, p, SHARES_FIELD);
     let mut shares = [0u64; 16];
     copy(&epoch[first..first + n], &mut shares[..n]);
     ThresholdDecrypt {
-        ciphertext: epoch[at + CIPHERTEXT_FIELD],
+        ciphertext: epoch[record_at(n, p, CIPHERTEXT_FIELD)],
         shares,
-        had_input: epoch[at + HAD_INPUT_FIELD] != 0,
-        terminated: epoch[at + TERMINATED_FIELD] != 0,
+        had_input: epoch[record_at(n, p, HAD_INPUT_FIELD)] != 0,
+        terminated: epoch[record_at(n, p, TERMINATED_FIELD)] != 0,
     }
 }
 
 // The entry of proposer p. A tag above the last reads as the last.
 #[tactic(auto, unfolding(crate::specs::Words::load_decryption))]
-pub fn load_decryption(epoch: &[u64], n: usize, p: usize) -> DecryptionState
+pub fn load_decryption(epoch: &[u64], n: usize, p: usize) -> Option<DecryptionState>
     requires { EpochWords n epoch.now × (p < n) }
     ensures { decryption_of result ≡ load_decryption n epoch.now p }
 {
-    let at = RECORDS_AT + p * (RECORD_FIELDS + n);
-    match epoch[at + DECRYPTION_FIELD] {
-        ENTRY_NONE => DecryptionState::Missing,
-        ENTRY_ONGOING => DecryptionState::Ongoing(load_instance(epoch, n, p)),
-        _ => DecryptionState::Complete(epoch[at + PLAINTEXT_FIELD]),
+    match epoch[record_at(n, p, DECRYPTION_FIELD)] {
+        ENTRY_NONE => None,
+        ENTRY_ONGOING => Some(DecryptionState::Ongoing(load_instance(epoch, n, p))),
+        _ => Some(DecryptionState::Complete(
+            epoch[record_at(n, p, PLAINTEXT_FIELD)],
+        )),
     }
 }
 
@@ -57,18 +56,18 @@ pub fn open_entry(epoch: &[u64], n: usize, p: usize) -> Option<ThresholdDecrypt>
         (λ td. (asks (get_or epoch.now (decryption_at n p) 0) ≡ true) × (td ≡ load_entry n epoch.now p)) }
 {
     match load_decryption(epoch, n, p) {
-        DecryptionState::Missing => Some(ThresholdDecrypt::new()),
-        DecryptionState::Ongoing(td) => Some(td),
-        DecryptionState::Complete(_) => None,
+        None => Some(ThresholdDecrypt::new()),
+        Some(DecryptionState::Ongoing(td)) => Some(td),
+        Some(DecryptionState::Complete(_)) => None,
     }
 }
 
 // Sets its shares.
-fn store_shares(epoch: &mut [u64], n: usize, p: usize, shares: [u64; 16])
+fn store_shares(epoch: &mut [u64], n: usize, p: usize, shares: &[u64; 16])
     requires { EpochWords n epoch.old × (p < n) }
-    ensures { epoch.new ≡ set_shares n p n 0 shares epoch.old }
+    ensures { epoch.new ≡ set_shares n p n 0 shares.now epoch.old }
 {
-    let first = RECORDS_AT + p * (RECORD_FIELDS + n) + SHARES_FIELD;
+    let first = record_at(n, p, SHARES_FIELD);
     copy(&shares[..n], &mut epoch[first..first + n]);
 }
 
@@ -79,44 +78,35 @@ fn store_entry(
     p: usize,
     tag: u64,
     plaintext: u64,
-    td: ThresholdDecrypt,
+    td: &ThresholdDecrypt,
 )
     requires { EpochWords n epoch.old × (p < n) }
-    ensures { epoch.new ≡ store_entry n epoch.old p tag plaintext td }
+    ensures { epoch.new ≡ store_entry n epoch.old p tag plaintext td.now }
 {
-    let at = RECORDS_AT + p * (RECORD_FIELDS + n);
-    epoch[at + DECRYPTION_FIELD] = tag;
-    epoch[at + PLAINTEXT_FIELD] = plaintext;
-    epoch[at + CIPHERTEXT_FIELD] = td.ciphertext;
-    epoch[at + HAD_INPUT_FIELD] = u64::from(td.had_input);
-    epoch[at + TERMINATED_FIELD] = u64::from(td.terminated);
-    let shares = td.shares;
-    store_shares(epoch, n, p, shares);
+    epoch[record_at(n, p, DECRYPTION_FIELD)] = tag;
+    epoch[record_at(n, p, PLAINTEXT_FIELD)] = plaintext;
+    epoch[record_at(n, p, CIPHERTEXT_FIELD)] = td.ciphertext;
+    epoch[record_at(n, p, HAD_INPUT_FIELD)] = u64::from(td.had_input);
+    epoch[record_at(n, p, TERMINATED_FIELD)] = u64::from(td.terminated);
+    store_shares(epoch, n, p, &td.shares);
 }
 
 // Stores the entry of proposer p.
 #[tactic(auto, unfolding(crate::specs::Words::store_decryption))]
-pub fn store_decryption(epoch: &mut [u64], n: usize, p: usize, state: DecryptionState)
+pub fn store_decryption(epoch: &mut [u64], n: usize, p: usize, state: Option<DecryptionState>)
     requires { EpochWords n epoch.old × (p < n) }
     ensures { epoch.new ≡ store_decryption n epoch.old p (decryption_of state) }
 {
     match state {
-        DecryptionState::Missing => store_entry(
-            epoch,
-            n,
-            p,
-            ENTRY_NONE,
-            0,
-            ThresholdDecrypt::new(),
-        ),
-        DecryptionState::Ongoing(td) => store_entry(epoch, n, p, ENTRY_ONGOING, 0, td),
-        DecryptionState::Complete(plaintext) => store_entry(
+        None => store_entry(epoch, n, p, ENTRY_NONE, 0, &ThresholdDecrypt::new()),
+        Some(DecryptionState::Ongoing(td)) => store_entry(epoch, n, p, ENTRY_ONGOING, 0, &td),
+        Some(DecryptionState::Complete(plaintext)) => store_entry(
             epoch,
             n,
             p,
             ENTRY_COMPLETE,
             plaintext,
-            ThresholdDecrypt::new(),
+            &ThresholdDecrypt::new(),
         ),
     }
 }
