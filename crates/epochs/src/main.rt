@@ -23,7 +23,7 @@ ghost use Rattle.epochwords.specs.Shape.{EpochWords};
 use epoch::MessageContent;
 use epoch::epoch_state::{Input, Setting, SubsetInput, handle, new_epoch};
 use epochwords::SubsetHandlingStrategy;
-use epochwords::batch::{is_ready, output_batch};
+use epochwords::batch::EpochRecords;
 use epochwords::range::epoch_in_range;
 use epochwords::words::{STATUS_AT, STATUS_VACANT};
 use lines::{OtherLine, first_of, kind_of, line_ends, number, read_numbers, without_cut};
@@ -245,10 +245,15 @@ fn hand_out(
     requires { EpochWords n epoch.now }
 {
     let size = RECORD_FIELDS + n;
-    if !call.current || !is_ready(epoch, size, n) {
+    let records = EpochRecords {
+        words: epoch,
+        size,
+        n,
+    };
+    if !call.current || !records.is_ready() {
         return Ok(false);
     }
-    output_batch(epoch, size, n, call.epoch, reader, writer)?;
+    records.output_batch(call.epoch, reader, writer)?;
     Ok(true)
 }
 

@@ -13,7 +13,7 @@ ghost use Rattle.work.specs.Shape.{CallOk, body_of, input_of, call_work, try_out
 
 use epoch::MessageContent;
 use epoch::epoch_state::{Input, Setting, SubsetInput, handle, new_epoch};
-use epochwords::batch::{is_ready, output_batch};
+use epochwords::batch::EpochRecords;
 use epochwords::words::{STATUS_AT, STATUS_VACANT};
 use state::words::{
     AHEAD_AT, EPOCH_AT, NODES_AT, encrypted_in, load, net_of, place_of, strategy_of,
@@ -61,10 +61,11 @@ fn try_output_batch(
     ensures table { same_table writer.old writer.new }
 {
     let size = RECORD_FIELDS + n;
-    if !is_ready(words, size, n) {
+    let records = EpochRecords { words, size, n };
+    if !records.is_ready() {
         return Ok(false);
     }
-    output_batch(words, size, n, number, reader, writer)?;
+    records.output_batch(number, reader, writer)?;
     Ok(true)
 }
 

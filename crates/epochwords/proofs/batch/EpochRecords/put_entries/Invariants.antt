@@ -3,10 +3,10 @@ use mathlib.Core.Path.{◌≡◌}
 use Rattle.steps.specs.Written.{out_of, same_table}
 use Rattle.steps.specs.Steps.{put_all}
 use Rattle.epochwords.specs.Batch.{entries_from}
-use Rattle.epochwords.proofs.batch.put_entries.Given as goal
+use Rattle.epochwords.proofs.batch.EpochRecords.put_entries.Given as goal
 
 abbrev pub invariant-loop-p : goal.invariant-loop-p
 invariant-loop-p l = record {
-  entries : put_all (out_of l.writer) (entries_from l.size (l.n - l.p) l.p l.readable l.epoch) ≡ put_all (out_of l.initial.writer) (entries_from l.size l.n 0 l.readable l.epoch);
+  entries : put_all (out_of l.writer) (entries_from l.self.size (l.self.n - l.p) l.p l.readable l.self.words.now) ≡ put_all (out_of l.initial.writer) (entries_from l.self.size l.self.n 0 l.readable l.self.words.now);
   table : same_table l.initial.writer l.writer;
 }
