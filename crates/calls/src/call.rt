@@ -20,7 +20,7 @@ use steps::numbers::{ANSWER_NOT_NEXT, ANSWERS_UNREAD, STEP_TABLE_TOO_SHORT, SUCC
 use steps::reader::Reader;
 use steps::step::{Step, Writer};
 use work::commit::{commit, count_faults};
-use work::honey_badger::{Call, run};
+use work::honey_badger::{Call, HoneyBadger};
 
 // A writer without a table, that counts.
 fn counter<'a>() -> Writer<'a>
@@ -124,15 +124,8 @@ fn finish(
     let mut next = 0;
     let mut again = Reader::new(answers);
     let mut writer = Writer { step, words: table };
-    let _ = run(
-        state,
-        epoch,
-        call,
-        words,
-        &mut next,
-        &mut again,
-        &mut writer,
-    );
+    let engine = HoneyBadger { state, epoch, call };
+    let _ = engine.run(words, &mut next, &mut again, &mut writer);
     step.header(table, epoch);
     commit(state, call, epoch, words, next);
     count_faults(state, counted.faults.at);
@@ -156,15 +149,8 @@ fn run_twice(
     let mut next = 0;
     let mut reader = Reader::new(answers);
     let mut counter = counter();
-    let outcome = run(
-        state,
-        epoch,
-        call,
-        words,
-        &mut next,
-        &mut reader,
-        &mut counter,
-    );
+    let engine = HoneyBadger { state, epoch, call };
+    let outcome = engine.run(words, &mut next, &mut reader, &mut counter);
     let read = reader.is_end();
     let counted = counter.step;
     match outcome {

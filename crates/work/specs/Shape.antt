@@ -1,5 +1,6 @@
 -- What the functions of a run and of its commit require, and the runs that they are.
 use Rattle.std.specs.Prelude.{ℕ, ◌+◌, ◌<◌, List, Bool, true, false, cond, set, leb}
+use Rattle.std.specs.Coded.{×_prop, Unit-prop, le_prop}
 use Rattle.steps.specs.Numbers.{fault_limit}
 use Rattle.steps.specs.Answers.{Tape}
 use Rattle.steps.specs.Runs.{going, Run, ends, onward}
@@ -33,6 +34,11 @@ input_of (Message sender proposer content) = content_input sender proposer conte
 abbrev pub CallOk : Call → ℕ → Type 0
 CallOk Propose n = Unit {0}
 CallOk (Message sender proposer content) n = (sender < n) × (proposer < n)
+
+-- which has one proof, so that a type may hold it
+pub CallOk-prop : (call : Call) (n : ℕ) → IsProp (CallOk call n)
+CallOk-prop Propose n = Unit-prop
+CallOk-prop (Message sender proposer content) n = ×_prop le_prop le_prop
 
 -- the run of a call in this epoch, which is that of `propose_work` or `message_work`
 abbrev pub call_work : Call → ℕ → List ℕ → Tape → Run Worked (Unit {0})

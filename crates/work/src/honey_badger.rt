@@ -7,9 +7,8 @@ ghost use Rattle.steps.specs.Written.{out_of, same_table, left, left_reading};
 ghost use Rattle.subset.specs.Words.{epoch_length};
 ghost use Rattle.epochwords.specs.Shape.{EpochWords, Listed};
 ghost use Rattle.state.specs.State.{nodes, ahead, current_epoch, epoch_words, state_ok};
-ghost use Rattle.state.specs.Shape.{StateWords};
 ghost use Rattle.work.specs.Work.{built, epoch_call, beside, batches_from, worked};
-ghost use Rattle.work.specs.Shape.{CallOk, body_of, input_of, call_work, try_output_batch};
+ghost use Rattle.work.specs.Shape.{CallOk, CallOk-prop, body_of, input_of, call_work, try_output_batch};
 
 use epoch::MessageContent;
 use epoch::epoch_state::{Input, Setting, SubsetInput, handle, new_epoch};
@@ -47,6 +46,16 @@ impl From<Call> for Input {
     }
 }
 
+// The engine at a call: its state, which is only read, the call and its epoch.
+#[derive(Clone, Copy)]
+pub struct HoneyBadger<'a> {
+    pub state: &'a [u64],
+    pub epoch: u64,
+    pub call: Call,
+    ghost in_range: { state_ok state.now ≡ true },
+    ghost nodes: { CallOk call (nodes state.now) } by { CallOk-prop call (nodes state.now) },
+}
+
 // `try_output_batch`: hands out the batch of epoch `number`, whose words these are, if it is ready: whether it went out.
 #[tactic(auto, unfolding(crate::specs::Shape::try_output_batch, steps::specs::Steps::put_all))]
 fn try_output_batch(
@@ -69,58 +78,6 @@ fn try_output_batch(
     Ok(true)
 }
 
-// Hands out the batch of epoch `number`, if it is ready. `words` are those of epoch `epoch`; those of the others stand in the state.
-#[tactic(auto, using(state::proofs::WordsCode::place_inside, state::proofs::WordsCode::state_small, state::proofs::WordsCode::part_words, state::proofs::WordsCode::words_epoch, crate::proofs::BatchTurnCode::beside_own, crate::proofs::BatchTurnCode::beside_other))]
-fn try_output_at(
-    state: &[u64],
-    epoch: u64,
-    words: &[u64],
-    number: u64,
-    reader: &mut Reader,
-    writer: &mut Writer,
-) -> Result<bool, Stop>
-    requires { StateWords state.now × (length words.now ≡ epoch_length (nodes state.now)) }
-    ensures run { left (beside state.now epoch words.now number) result reader.new writer.new
-        ≡ leaves (out_of writer.old) (try_output_batch (nodes state.now) number (beside state.now epoch words.now number) reader.old) }
-    ensures table { same_table writer.old writer.new }
-{
-    let n = state[NODES_AT] as usize;
-    if number == epoch {
-        return try_output_batch(words, n, number, reader, writer);
-    }
-    let at = place_of(state, number);
-    let end = at + words.len();
-    try_output_batch(&state[at..end], n, number, reader, writer)
-}
-
-// `try_output_batches`: hands out batches from the current epoch on, as long as the next one is ready. `next` is then the epoch that is
-// next.
-#[tactic(auto, using(state::proofs::WordsCode::header_inside, crate::proofs::BatchTurnCode::tried_over, crate::proofs::BatchTurnCode::tried_ends, crate::proofs::BatchTurnCode::none_left), unfolding(steps::specs::Steps::put_all))]
-fn try_output_batches(
-    state: &[u64],
-    epoch: u64,
-    words: &[u64],
-    next: &mut u64,
-    reader: &mut Reader,
-    writer: &mut Writer,
-) -> Result<(), Stop>
-    requires { StateWords state.now × (length words.now ≡ epoch_length (nodes state.now)) }
-    ensures run { left next.new result reader.new writer.new
-        ≡ leaves (out_of writer.old) (batches_from (nodes state.now) (beside state.now epoch words.now) (ahead state.now + 1) (current_epoch state.now) reader.old) }
-    ensures table { same_table writer.old writer.new }
-{
-    let current = state[EPOCH_AT];
-    let behind = current + state[AHEAD_AT] + 1;
-    *next = current;
-    for number in current..behind {
-        if !try_output_at(state, epoch, words, number, reader, writer)? {
-            return Ok(());
-        }
-        *next = number + 1;
-    }
-    Ok(())
-}
-
 // `epoch_state_mut`: the instances of an epoch are built where there are none.
 #[tactic(auto, unfolding(crate::specs::Work::built))]
 fn build(n: usize, words: &mut [u64], reader: &mut Reader) -> Result<(), Stop>
@@ -138,65 +95,111 @@ fn build(n: usize, words: &mut [u64], reader: &mut Reader) -> Result<(), Stop>
     Ok(())
 }
 
-// The epoch's own call.
-#[tactic(auto, using(state::proofs::WordsCode::header_inside, state::proofs::RangeCode::ok_words, state::proofs::RangeCode::ok_schedule, crate::proofs::RunCode::net_network, crate::proofs::RunCode::net_nodes, crate::proofs::RunCode::call_comes, crate::proofs::RunCode::body_input))]
-fn call_body(
-    state: &[u64],
-    epoch: u64,
-    call: Call,
-    words: &mut [u64],
-    reader: &mut Reader,
-    writer: &mut Writer,
-) -> Result<(), Stop>
-    requires { (state_ok state.now ≡ true) × CallOk call (nodes state.now) × EpochWords (nodes state.now) words.old × Listed (nodes state.now) words.old }
-    ensures run { left words.new result reader.new writer.new ≡ leaves (out_of writer.old) (body_of call state.now epoch words.old reader.old) }
-    ensures table { same_table writer.old writer.new }
-{
-    let setting = Setting {
-        net: net_of(state),
-        strategy: strategy_of(state),
-        encrypted: encrypted_in(state, epoch),
-    };
-    handle(words, setting, Input::from(call), reader, writer)
-}
+impl HoneyBadger<'_> {
+    // Hands out the batch of epoch `number`, if it is ready. The words of the epochs that are not called stand in the state.
+    #[tactic(auto, using(state::proofs::WordsCode::place_inside, state::proofs::WordsCode::state_small, state::proofs::WordsCode::part_words, state::proofs::WordsCode::words_epoch, state::proofs::RangeCode::ok_words, crate::proofs::BatchTurnCode::beside_own, crate::proofs::BatchTurnCode::beside_other))]
+    fn try_output_at(
+        self,
+        words: &[u64],
+        number: u64,
+        reader: &mut Reader,
+        writer: &mut Writer,
+    ) -> Result<bool, Stop>
+        requires { length words.now ≡ epoch_length (nodes self.state.now) }
+        ensures run { left (beside self.entry.state.now self.entry.epoch words.now number) result reader.new writer.new
+            ≡ leaves (out_of writer.old) (try_output_batch (nodes self.entry.state.now) number (beside self.entry.state.now self.entry.epoch words.now number) reader.old) }
+        ensures table { same_table writer.old writer.new }
+    {
+        let n = self.state[NODES_AT] as usize;
+        if number == self.epoch {
+            return try_output_batch(words, n, number, reader, writer);
+        }
+        let at = place_of(self.state, number);
+        let end = at + words.len();
+        try_output_batch(&self.state[at..end], n, number, reader, writer)
+    }
 
-// The epoch's words are built where there are none, then its own call runs.
-#[tactic(auto, using(state::proofs::WordsCode::header_inside, state::proofs::RangeCode::ok_words))]
-fn call_epoch(
-    state: &[u64],
-    epoch: u64,
-    call: Call,
-    words: &mut [u64],
-    reader: &mut Reader,
-    writer: &mut Writer,
-) -> Result<(), Stop>
-    requires { (state_ok state.now ≡ true) × CallOk call (nodes state.now) × (length words.old ≡ epoch_length (nodes state.now)) }
-    ensures run { left words.new result reader.new writer.new
-        ≡ leaves (out_of writer.old) (epoch_call (nodes state.now) (body_of call state.now epoch) (epoch_words state.now epoch) reader.old) }
-    ensures table { same_table writer.old writer.new }
-{
-    load(state, epoch, words);
-    build(state[NODES_AT] as usize, words, reader)?;
-    call_body(state, epoch, call, words, reader, writer)
-}
+    // `try_output_batches`: hands out batches from the current epoch on, as long as the next one is ready. `next` is then the epoch that is
+    // next.
+    #[tactic(auto, using(state::proofs::WordsCode::header_inside, state::proofs::RangeCode::ok_words, crate::proofs::BatchTurnCode::tried_over, crate::proofs::BatchTurnCode::tried_ends, crate::proofs::BatchTurnCode::none_left), unfolding(steps::specs::Steps::put_all))]
+    fn try_output_batches(
+        self,
+        words: &[u64],
+        next: &mut u64,
+        reader: &mut Reader,
+        writer: &mut Writer,
+    ) -> Result<(), Stop>
+        requires { length words.now ≡ epoch_length (nodes self.state.now) }
+        ensures run { left next.new result reader.new writer.new
+            ≡ leaves (out_of writer.old) (batches_from (nodes self.entry.state.now) (beside self.entry.state.now self.entry.epoch words.now) (ahead self.entry.state.now + 1) (current_epoch self.entry.state.now) reader.old) }
+        ensures table { same_table writer.old writer.new }
+    {
+        let current = self.state[EPOCH_AT];
+        let behind = current + self.state[AHEAD_AT] + 1;
+        *next = current;
+        for number in current..behind {
+            if !self.try_output_at(words, number, reader, writer)? {
+                return Ok(());
+            }
+            *next = number + 1;
+        }
+        Ok(())
+    }
 
-// A run: the epoch's call on its words, then batches are handed out. The state is only read; `next` is where the run leaves the current
-// epoch.
-#[tactic(auto, using(state::proofs::WordsCode::header_inside, state::proofs::RangeCode::ok_words))]
-pub fn run(
-    state: &[u64],
-    epoch: u64,
-    call: Call,
-    words: &mut [u64],
-    next: &mut u64,
-    reader: &mut Reader,
-    writer: &mut Writer,
-) -> Result<(), Stop>
-    requires { (state_ok state.now ≡ true) × CallOk call (nodes state.now) × (length words.old ≡ epoch_length (nodes state.now)) }
-    ensures run { left (worked words.new next.new) result reader.new writer.new ≡ leaves (out_of writer.old) (call_work call epoch state.now reader.old) }
-    ensures table { same_table writer.old writer.new }
-{
-    *next = state[EPOCH_AT];
-    call_epoch(state, epoch, call, words, reader, writer)?;
-    try_output_batches(state, epoch, words, next, reader, writer)
+    // The epoch's own call.
+    #[tactic(auto, using(state::proofs::WordsCode::header_inside, state::proofs::RangeCode::ok_words, state::proofs::RangeCode::ok_schedule, crate::proofs::RunCode::net_network, crate::proofs::RunCode::net_nodes, crate::proofs::RunCode::call_comes, crate::proofs::RunCode::body_input))]
+    fn call_body(
+        self,
+        words: &mut [u64],
+        reader: &mut Reader,
+        writer: &mut Writer,
+    ) -> Result<(), Stop>
+        requires { EpochWords (nodes self.state.now) words.old × Listed (nodes self.state.now) words.old }
+        ensures run { left words.new result reader.new writer.new ≡ leaves (out_of writer.old) (body_of self.entry.call self.entry.state.now self.entry.epoch words.old reader.old) }
+        ensures table { same_table writer.old writer.new }
+    {
+        let setting = Setting {
+            net: net_of(self.state),
+            strategy: strategy_of(self.state),
+            encrypted: encrypted_in(self.state, self.epoch),
+        };
+        handle(words, setting, Input::from(self.call), reader, writer)
+    }
+
+    // The epoch's words are built where there are none, then its own call runs.
+    #[tactic(auto, using(state::proofs::WordsCode::header_inside, state::proofs::RangeCode::ok_words))]
+    fn call_epoch(
+        self,
+        words: &mut [u64],
+        reader: &mut Reader,
+        writer: &mut Writer,
+    ) -> Result<(), Stop>
+        requires { length words.old ≡ epoch_length (nodes self.state.now) }
+        ensures run { left words.new result reader.new writer.new
+            ≡ leaves (out_of writer.old) (epoch_call (nodes self.entry.state.now) (body_of self.entry.call self.entry.state.now self.entry.epoch) (epoch_words self.entry.state.now self.entry.epoch) reader.old) }
+        ensures table { same_table writer.old writer.new }
+    {
+        load(self.state, self.epoch, words);
+        build(self.state[NODES_AT] as usize, words, reader)?;
+        self.call_body(words, reader, writer)
+    }
+
+    // A run: the epoch's call on its words, then batches are handed out. The state is only read; `next` is where the run leaves the current
+    // epoch.
+    #[tactic(auto, using(state::proofs::WordsCode::header_inside, state::proofs::RangeCode::ok_words))]
+    pub fn run(
+        self,
+        words: &mut [u64],
+        next: &mut u64,
+        reader: &mut Reader,
+        writer: &mut Writer,
+    ) -> Result<(), Stop>
+        requires { length words.old ≡ epoch_length (nodes self.state.now) }
+        ensures run { left (worked words.new next.new) result reader.new writer.new ≡ leaves (out_of writer.old) (call_work self.entry.call self.entry.epoch self.entry.state.now reader.old) }
+        ensures table { same_table writer.old writer.new }
+    {
+        *next = self.state[EPOCH_AT];
+        self.call_epoch(words, reader, writer)?;
+        self.try_output_batches(words, next, reader, writer)
+    }
 }

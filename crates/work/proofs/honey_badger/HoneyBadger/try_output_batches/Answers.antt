@@ -1,7 +1,7 @@
 -- `try_output_batches` meets its contract. The invariant: what the batches from here on leave is what all leave. Assumes nothing.
 use mathlib.Core.Path.{refl, ◌∙◌}
 use Rattle.work.proofs.BatchTurnCode.{tried_goes}
-use Rattle.work.proofs.honey_badger.try_output_batches.Goals as goal
+use Rattle.work.proofs.honey_badger.HoneyBadger.try_output_batches.Goals as goal
 
 pub loop-number-preserved : goal.loop-number-preserved
 loop-number-preserved c = record {
