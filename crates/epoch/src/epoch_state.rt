@@ -1,6 +1,6 @@
 // One epoch over its words, after honey_badger/epoch_state.rs. `epoch` are the words of the epoch.
 //
-// `epoch` and `net` are no struct: with one each contract would have to say besides that the network stays, and where the words are.
+// `epoch` is no struct with its number of nodes: each function that is lent one would owe besides that its words are the same ones afterwards.
 ghost use Rattle.std.specs.Prelude.{◌≡◌, ℕ, ◌<◌, ◌≤◌, List, Bool, Ok, length, get_or, set};
 ghost use Rattle.network.specs.Network.{Network};
 ghost use Rattle.steps.specs.Answers.{Tape};
@@ -25,7 +25,8 @@ use steps::bits::{has_bit, with_bit};
 use steps::kinds::{AnswerKind, Failure, FaultKind, Stop};
 use steps::reader::{Content, Reader};
 use steps::step::Writer;
-use subset::words::{ARRIVAL_FIELD, COUNT_AT, DECIDED_AT, PROPOSAL_FIELD, VALUE_FIELD, record_at};
+use proposal::ProposalState;
+use subset::words::{ARRIVAL_FIELD, COUNT_AT, DECIDED_AT, VALUE_FIELD, record_at, store_proposal};
 
 // What an epoch runs with: its network, when contributions are handled, and whether they are encrypted.
 #[derive(Clone, Copy)]
@@ -76,8 +77,7 @@ fn process_decryption(
         None => DecryptionState::Ongoing(*td),
     };
     store_decryption(epoch, net.num_nodes, p, Some(state));
-    called?;
-    Ok(())
+    called.map(|_| ())
 }
 
 // `DecryptionState::set_ciphertext`. A ciphertext that does not verify is fault 4.
@@ -124,8 +124,9 @@ fn input_entry(
     process_decryption(epoch, net, p, &td, called)
 }
 
-// Hands a share to the entry of proposer p, unless that asks nothing any more. It differs from `input_entry` in its call; with the call as
-// a closure one contract for both would have to speak of what any closure leaves.
+// Hands a share to the entry of proposer p, unless that asks nothing any more. It differs from `input_entry` in its call. With the call as a
+// closure one contract for both would have to speak of what any closure leaves; with an enum of the two calls, the enum and a match would
+// be longer than the four lines here.
 #[tactic(auto, unfolding(crate::specs::Epoch::call_entry, steps::specs::Steps::put_all))]
 fn share_entry(
     epoch: &mut [u64],
@@ -196,13 +197,12 @@ fn handle_decryption_share(
 }
 
 // Drops the proposal of p.
-#[tactic(auto, unfolding(crate::specs::Epoch::proposal_dropped))]
+#[tactic(auto, unfolding(crate::specs::Epoch::proposal_dropped, subset::specs::Words::store_proposal, subset::specs::Words::tag_of, subset::specs::Words::value_of))]
 fn drop_proposal(epoch: &mut [u64], n: usize, p: usize)
     requires { EpochWords n epoch.old × (p < n) }
     ensures { epoch.new ≡ proposal_dropped n epoch.old p }
 {
-    epoch[record_at(n, p, PROPOSAL_FIELD)] = 0;
-    epoch[record_at(n, p, VALUE_FIELD)] = 0;
+    store_proposal(epoch, n, p, ProposalState::Ongoing);
 }
 
 // `SubsetState::Complete`, which drops the subset.

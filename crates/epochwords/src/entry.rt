@@ -19,7 +19,7 @@ pub enum DecryptionState {
 }
 
 // The instance in the words of proposer p. They have room for n shares, an instance for 16.
-fn load_instance(epoch: &[u64], n: usize, p: usize) -> ThresholdDecrypt
+pub fn load_instance(epoch: &[u64], n: usize, p: usize) -> ThresholdDecrypt
     requires { EpochWords n epoch.now × (p < n) }
     ensures { result ≡ load_instance n epoch.now p }
 {
@@ -72,7 +72,7 @@ fn store_shares(epoch: &mut [u64], n: usize, p: usize, shares: &[u64; 16])
 }
 
 // Sets all words of proposer p's entry.
-fn store_entry(
+pub fn store_entry(
     epoch: &mut [u64],
     n: usize,
     p: usize,

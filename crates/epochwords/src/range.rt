@@ -13,8 +13,7 @@ use crate::words::{
 };
 use steps::numbers::HANDLE_LIMIT;
 use subset::words::{
-    ARRIVAL_FIELD, COUNT_AT, DECIDED_AT, PROPOSAL_FIELD, RECORD_FIELDS, RECORDS_AT,
-    TAG_COMPLETE_TRUE,
+    ARRIVAL_FIELD, COUNT_AT, DECIDED_AT, PROPOSAL_FIELD, RECORDS_AT, TAG_COMPLETE_TRUE, record_at,
 };
 
 // The words joined bit by bit: below a power of two where each of them is.
@@ -34,12 +33,11 @@ fn small_in_range(epoch: &[u64], n: usize, p: usize) -> bool
     requires { EpochWords n epoch.now × (p < n) }
     ensures { result ≡ small_in_range n epoch.now p }
 {
-    let at = RECORDS_AT + p * (RECORD_FIELDS + n);
-    (epoch[at + PROPOSAL_FIELD] <= TAG_COMPLETE_TRUE)
-        & (epoch[at + DECRYPTION_FIELD] <= ENTRY_COMPLETE)
-        & (epoch[at + HAD_INPUT_FIELD] <= 1)
-        & (epoch[at + TERMINATED_FIELD] <= 1)
-        & (epoch[at + ARRIVAL_FIELD] < n as u64)
+    (epoch[record_at(n, p, PROPOSAL_FIELD)] <= TAG_COMPLETE_TRUE)
+        & (epoch[record_at(n, p, DECRYPTION_FIELD)] <= ENTRY_COMPLETE)
+        & (epoch[record_at(n, p, HAD_INPUT_FIELD)] <= 1)
+        & (epoch[record_at(n, p, TERMINATED_FIELD)] <= 1)
+        & (epoch[record_at(n, p, ARRIVAL_FIELD)] < n as u64)
 }
 
 // How many contributions are kept between calls at most.

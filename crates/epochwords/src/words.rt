@@ -8,8 +8,8 @@ pub const ACCEPTED_AT: usize = 2;
 // Those from here on, up to the records, are 0.
 pub const RESERVED_AT: usize = 4;
 
-// The status: there is no such epoch, `SubsetState::Ongoing`, `SubsetState::Complete`. A number because it stands in a word that the host keeps
-// (docs/STATE.md); it is read and written where it stands.
+// The status: there is no such epoch, `SubsetState::Ongoing`, `SubsetState::Complete`. A number because it is a word of the interface, which the
+// host keeps (docs/STATE.md), and compared where it stands.
 pub const STATUS_VACANT: u64 = 0;
 
 pub const STATUS_ONGOING: u64 = 1;
@@ -29,7 +29,8 @@ pub const TERMINATED_FIELD: usize = 6;
 
 pub const SHARES_FIELD: usize = 8;
 
-// Copies all words, one by one: the archive may want `memcpy` of the C library, and std's `copy_from_slice` wants `memmove`.
+// Copies all words, one by one: the archive may want `memcpy` of the C library, and std's `copy_from_slice` wants `memmove`. By index, because
+// the slices' own iterators, zipped, leave the proof without the place that both are at.
 pub fn copy(from: &[u64], to: &mut [u64])
     requires { length from.now ≡ length to.old }
     ensures { to.new ≡ from.now }
