@@ -29,8 +29,8 @@ pub const TERMINATED_FIELD: usize = 6;
 
 pub const SHARES_FIELD: usize = 8;
 
-// Copies all words, one by one: the archive may want `memcpy` of the C library, and std's `copy_from_slice` wants `memmove`. By index, because
-// the slices' own iterators, zipped, leave the proof without the place that both are at.
+// Copies all words, one by one: the archive may want `memcpy` of the C library, and std's `copy_from_slice` wants `memmove`. By index: with
+// the two slices zipped, the loop's invariant has to speak of what is left of both of std's iterators, and is longer than the loop.
 pub fn copy(from: &[u64], to: &mut [u64])
     requires { length from.now ≡ length to.old }
     ensures { to.new ≡ from.now }
