@@ -1,14 +1,17 @@
 // The subset over the words of one epoch, after subset.rs. `error` is the failure that the caller gives the error of an instance.
 //
-// `EpochWords` stands in each contract, and words, network, reader and writer are parameters one by one: an epoch is a slice of the memory
-// that C hands over, lent from layer to layer, and a struct of them would be made in each call only to be taken apart after it.
-ghost use Rattle.std.specs.Prelude.{◌≡◌, ◌<◌, ℕ};
+// `EpochWords` stands in each contract, and words, network, reader and writer are parameters one by one: the words are lent by `&mut`. A struct
+// over them was tried, and proves; but each function that is lent it then owes that the words are the same ones (as `same_table` says for the
+// writer) in place of the one `requires` that goes.
+ghost use Rattle.std.specs.Prelude.{◌≡◌, ◌<◌, ℕ, count_ones};
 ghost use Rattle.network.specs.Network.{Network};
 ghost use Rattle.steps.specs.Answers.{Tape};
 ghost use Rattle.steps.specs.Kinds.{answer_number, failure_number};
 ghost use Rattle.steps.specs.Written.{left, left_reading, out_of, same_table};
 ghost use Rattle.steps.specs.Runs.{leaves};
 ghost use Rattle.subset.specs.Subset.{received_proposals, count_accepted, all_complete, at_proposal, vote_from, votes, try_output, propose, handle_message};
+ghost use Rattle.subset.specs.Words.{record_length};
+ghost use Rattle.subset.specs.Bits.{proposals_in};
 ghost use Rattle.subset.specs.Outcomes.{EpochWords, answer_at, message_kind};
 
 use crate::words;
@@ -19,14 +22,21 @@ use steps::kinds::{AnswerKind, Failure, Stop};
 use steps::reader::{Content, Reader};
 use steps::step::Writer;
 
+// How many proposals have a tag of this set.
+fn count_in(epoch: &[u64], n: usize, tags: u64) -> usize
+    requires { EpochWords n epoch.now }
+    ensures { result ≡ count_ones (proposals_in (record_length n) tags n epoch.now) }
+{
+    words::proposals_in(epoch, RECORD_FIELDS + n, n, tags).count_ones() as usize
+}
+
 // The number of validators from which we have already received a proposal.
 #[tactic(auto, using(crate::proofs::Bits::received_ones))]
 pub fn received_proposals(epoch: &[u64], n: usize) -> usize
     requires { EpochWords n epoch.now }
     ensures { result ≡ received_proposals n epoch.now }
 {
-    let received = words::proposals_in(epoch, RECORD_FIELDS + n, n, RECEIVED_TAGS);
-    received.count_ones() as usize
+    count_in(epoch, n, RECEIVED_TAGS)
 }
 
 // The number of agreements that have decided "yes".
@@ -35,8 +45,7 @@ fn count_accepted(epoch: &[u64], n: usize) -> usize
     requires { EpochWords n epoch.now }
     ensures { result ≡ count_accepted n epoch.now }
 {
-    let accepted = words::proposals_in(epoch, RECORD_FIELDS + n, n, ACCEPTED_TAGS);
-    accepted.count_ones() as usize
+    count_in(epoch, n, ACCEPTED_TAGS)
 }
 
 #[tactic(auto, using(crate::proofs::Bits::incomplete_none))]
