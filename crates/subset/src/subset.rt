@@ -12,7 +12,7 @@ ghost use Rattle.steps.specs.Runs.{leaves};
 ghost use Rattle.subset.specs.Subset.{received_proposals, count_accepted, all_complete, at_proposal, vote_from, votes, try_output, propose, handle_message};
 ghost use Rattle.subset.specs.Words.{record_length};
 ghost use Rattle.subset.specs.Bits.{proposals_in};
-ghost use Rattle.subset.specs.Outcomes.{EpochWords, answer_at, message_kind};
+ghost use Rattle.subset.specs.Outcomes.{EpochWords, answer_at, content_of, message_kind};
 
 use crate::words;
 use crate::words::{ACCEPTED_TAGS, DECIDED_AT, INCOMPLETE_TAGS, RECEIVED_TAGS, RECORD_FIELDS};
@@ -75,14 +75,13 @@ fn store_transition(
     Ok(())
 }
 
-// An answer of this kind for one proposer, of its broadcast or its agreement. A proposal that is not called is not stored again: the value
-// word of a complete one may hold a contribution that the epoch has not handled yet.
+// An answer of this kind for one proposer: kinds 3 and 4 are its broadcast's, the others its agreement's. A proposal that is not called is not
+// stored again: the value word of a complete one may hold a contribution that the epoch has not handled yet.
 #[tactic(auto, unfolding(crate::specs::Subset::broadcast_at, crate::specs::Subset::agreement_at, steps::specs::Steps::put_all))]
 fn answer_at(
     epoch: &mut [u64],
     net: NetworkInfo,
     error: Failure,
-    content: Content,
     kind: AnswerKind,
     p: usize,
     reader: &mut Reader,
@@ -90,18 +89,23 @@ fn answer_at(
 ) -> Result<(), Stop>
     requires { EpochWords net.num_nodes epoch.old × (p < net.num_nodes) }
     ensures run { left epoch.new result reader.new writer.new
-        ≡ leaves (out_of writer.old) (answer_at net (failure_number error) content (answer_number kind) p epoch.old reader.old) }
+        ≡ leaves (out_of writer.old) (answer_at net (failure_number error) (content_of kind) (answer_number kind) p epoch.old reader.old) }
     ensures table { same_table writer.old writer.new }
 {
     let state = words::load_proposal(epoch, net.num_nodes, p);
-    let moved = match content {
-        Content::Broadcast if state.asks_broadcast() => {
+    let moved = match kind {
+        AnswerKind::BroadcastProposal | AnswerKind::BroadcastMessage => {
+            if !state.asks_broadcast() {
+                return Ok(());
+            }
             state.handle_broadcast(error, p, kind, reader, writer)
         }
-        Content::Agreement if state.asks_agreement() => {
+        _ => {
+            if !state.asks_agreement() {
+                return Ok(());
+            }
             state.handle_agreement(error, p, kind, reader, writer)
         }
-        _ => return Ok(()),
     };
     store_transition(epoch, net, p, moved)
 }
@@ -119,9 +123,9 @@ fn vote_all(
         ≡ leaves (out_of writer.old) (vote_from net (failure_number error) net.num_nodes 0 epoch.old reader.old) }
     ensures table { same_table writer.old writer.new }
 {
-    let (content, kind) = (Content::Agreement, AnswerKind::ProposeFalse);
+    let kind = AnswerKind::ProposeFalse;
     for p in 0..net.num_nodes {
-        answer_at(epoch, net, error, content, kind, p, reader, writer)?;
+        answer_at(epoch, net, error, kind, p, reader, writer)?;
     }
     Ok(())
 }
@@ -191,15 +195,15 @@ pub fn propose(
     if !net.is_validator() {
         return Ok(false);
     }
-    let (content, kind) = (Content::Broadcast, AnswerKind::BroadcastProposal);
-    let own = net.our_id;
-    answer_at(epoch, net, error, content, kind, own, reader, writer)?;
+    let kind = AnswerKind::BroadcastProposal;
+    answer_at(epoch, net, error, kind, net.our_id, reader, writer)?;
     try_output(epoch, net, error, reader, writer)
 }
 
 // The answer that a message of this content asks for.
 fn message_kind(content: Content) -> AnswerKind
-    ensures { answer_number result ≡ message_kind content }
+    ensures number { answer_number result ≡ message_kind content }
+    ensures content { content_of result ≡ content }
 {
     match content {
         Content::Broadcast => AnswerKind::BroadcastMessage,
@@ -223,6 +227,6 @@ pub fn handle_message(
     ensures table { same_table writer.old writer.new }
 {
     let kind = message_kind(content);
-    answer_at(epoch, net, error, content, kind, proposer, reader, writer)?;
+    answer_at(epoch, net, error, kind, proposer, reader, writer)?;
     try_output(epoch, net, error, reader, writer)
 }
