@@ -1,5 +1,5 @@
 -- Cases of threshold decryption, as one table under one statement, `decryption_cases`, which is proved by computing the definitions: cases 7
--- and 8 of document 01, and more. Assumes nothing.
+-- and 8 of the engine's twelve (engine/proofs/BenchCases.antt), and more. Assumes nothing.
 use Prim.Native.Nat.{ℕ}
 use mathlib.Core.Path.{refl}
 use mathlib.Core.List.{List, [], ◌∷◌}

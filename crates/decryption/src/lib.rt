@@ -1,7 +1,7 @@
 // Collaborative threshold decryption, after threshold_decrypt.rs.
 //
-// Shares and the ciphertext are handles; 0 stands for none and not an Option, as in the words of the state that document 01 lays out. An instance
-// is changed in place, by methods that are lent it: it is 152 bytes long, and the stack should hold it once.
+// Shares and the ciphertext are handles, and 0 stands for none: no Option, since a word of the state holds either (docs/STATE.md). Methods change an
+// instance in place: it is 144 bytes long as measured, and the stack on a share's way should hold few of them.
 #![tactic(auto)]
 
 ghost use Rattle.std.specs.Prelude.{◌≡◌, ◌<◌};
@@ -19,7 +19,7 @@ use steps::step::Writer;
 #[derive(Clone, Copy, Default)]
 pub struct ThresholdDecrypt {
     pub ciphertext: u64,
-    // By sender. A table by index, for the Rust's map.
+    // By sender. A table by index, for the Rust's map: memory is fixed, and the interface's limit of nodes is 16.
     pub shares: [u64; 16],
     // Whether the own share was sent.
     pub had_input: bool,
@@ -125,7 +125,7 @@ impl ThresholdDecrypt {
         Ok(())
     }
 
-    // Sends the own share, and tries to combine. Starting and combining call each other, as in the Rust (document 01): each call sets a flag that
+    // Sends the own share, and tries to combine. Starting and combining call each other, as in the Rust: each call sets a flag that
     // was not set.
     #[cycle(start_decryption_try_output)]
     pub fn start_decryption(

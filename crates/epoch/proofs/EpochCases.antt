@@ -31,7 +31,7 @@ pub data Op : Type 0 where
   ready accepted received kept : Op
   proposal decryption : ℕ → Op
 
--- what is seen: document 01's number of the verdict, the step's entries, and how many answers are unread; or a number
+-- what is seen: the interface's number of the verdict, the step's entries, and how many answers are unread; or a number
 pub data Seen : Type 0 where
   ran : ℕ → List Entry → ℕ → Seen
   number : ℕ → Seen

@@ -1,4 +1,4 @@
--- What document 01 says of counts and orders in an epoch, in plain words of bits and plain lists. proofs/Orders proves that the definitions
+-- What is promised of counts and orders in an epoch, in plain words of bits and plain lists. proofs/Orders proves that the definitions
 -- after the Rust give these.
 use Rattle.std.specs.Prelude.{ℕ, zero, suc, ◌+◌, List, [], ◌∷◌, ◌++◌, Bool, cond, ◌&&◌, not, get_or, eqb}
 use Rattle.steps.specs.Numbers.{unexpected_decryption_share}

@@ -21,7 +21,8 @@ pub struct Transition {
     pub outcome: Result<Option<u64>, Stop>,
 }
 
-// `convert_bc` and `convert_ba`: the answer of an instance, and its last output.
+// `convert_bc` and `convert_ba`: the answer of an instance, and its last output. `content` stands beside `kind`, since the two public callers
+// promise for every kind that they read the parts as their own instance's.
 fn instance_answer(
     error: Failure,
     proposer: usize,

@@ -1,4 +1,4 @@
--- THE PAPER'S RULE (Miller et al., CCS 2016, as document 01 words it) at the subset layer, over a run of subset calls of one epoch in
+-- THE PAPER'S RULE (Miller et al., CCS 2016, in the words that are quoted below) at the subset layer, over a run of subset calls of one epoch in
 -- which no call fails. Values and decisions are read off the answers. Proved: `subset_rule` in proofs/Rule.antt.
 use Rattle.std.specs.Prelude.{ℕ, zero, suc, ◌+◌, ◌<◌, ◌≡◌, ◌≢◌, Bool, true, ◌&&◌, ◌||◌, not, get_or, eqb, leb}
 use mathlib.Core.List.{List, [], ◌∷◌, ◌++◌, Memᴰ}

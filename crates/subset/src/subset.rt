@@ -1,15 +1,18 @@
 // The subset over the words of one epoch, after subset.rs. `error` is the failure that the caller gives the error of an instance.
 //
-// `EpochWords` stands in each contract, and words, network, reader and writer are parameters one by one: an epoch is a slice of the memory
-// that C hands over, lent from layer to layer, and a struct of them would be made in each call only to be taken apart after it.
-ghost use Rattle.std.specs.Prelude.{◌≡◌, ◌<◌, ℕ};
+// `EpochWords` stands in each contract, and words, network, reader and writer are parameters one by one: the words are lent by `&mut`. A struct
+// over them was tried, and proves; but each function that is lent it then owes that the words are the same ones (as `same_table` says for the
+// writer) in place of the one `requires` that goes.
+ghost use Rattle.std.specs.Prelude.{◌≡◌, ◌<◌, ℕ, count_ones};
 ghost use Rattle.network.specs.Network.{Network};
 ghost use Rattle.steps.specs.Answers.{Tape};
 ghost use Rattle.steps.specs.Kinds.{answer_number, failure_number};
 ghost use Rattle.steps.specs.Written.{left, left_reading, out_of, same_table};
 ghost use Rattle.steps.specs.Runs.{leaves};
 ghost use Rattle.subset.specs.Subset.{received_proposals, count_accepted, all_complete, at_proposal, vote_from, votes, try_output, propose, handle_message};
-ghost use Rattle.subset.specs.Outcomes.{EpochWords, answer_at, message_kind};
+ghost use Rattle.subset.specs.Words.{record_length};
+ghost use Rattle.subset.specs.Bits.{proposals_in};
+ghost use Rattle.subset.specs.Outcomes.{EpochWords, answer_at, content_of, message_kind};
 
 use crate::words;
 use crate::words::{ACCEPTED_TAGS, DECIDED_AT, INCOMPLETE_TAGS, RECEIVED_TAGS, RECORD_FIELDS};
@@ -19,14 +22,21 @@ use steps::kinds::{AnswerKind, Failure, Stop};
 use steps::reader::{Content, Reader};
 use steps::step::Writer;
 
+// How many proposals have a tag of this set.
+fn count_in(epoch: &[u64], n: usize, tags: u64) -> usize
+    requires { EpochWords n epoch.now }
+    ensures { result ≡ count_ones (proposals_in (record_length n) tags n epoch.now) }
+{
+    words::proposals_in(epoch, RECORD_FIELDS + n, n, tags).count_ones() as usize
+}
+
 // The number of validators from which we have already received a proposal.
 #[tactic(auto, using(crate::proofs::Bits::received_ones))]
 pub fn received_proposals(epoch: &[u64], n: usize) -> usize
     requires { EpochWords n epoch.now }
     ensures { result ≡ received_proposals n epoch.now }
 {
-    let received = words::proposals_in(epoch, RECORD_FIELDS + n, n, RECEIVED_TAGS);
-    received.count_ones() as usize
+    count_in(epoch, n, RECEIVED_TAGS)
 }
 
 // The number of agreements that have decided "yes".
@@ -35,8 +45,7 @@ fn count_accepted(epoch: &[u64], n: usize) -> usize
     requires { EpochWords n epoch.now }
     ensures { result ≡ count_accepted n epoch.now }
 {
-    let accepted = words::proposals_in(epoch, RECORD_FIELDS + n, n, ACCEPTED_TAGS);
-    accepted.count_ones() as usize
+    count_in(epoch, n, ACCEPTED_TAGS)
 }
 
 #[tactic(auto, using(crate::proofs::Bits::incomplete_none))]
@@ -66,14 +75,13 @@ fn store_transition(
     Ok(())
 }
 
-// An answer of this kind for one proposer, of its broadcast or its agreement. A proposal that is not called is not stored again: the value
-// word of a complete one may hold a contribution that the epoch has not handled yet.
+// An answer of this kind for one proposer: kinds 3 and 4 are its broadcast's, the others its agreement's. A proposal that is not called is not
+// stored again: the value word of a complete one may hold a contribution that the epoch has not handled yet.
 #[tactic(auto, unfolding(crate::specs::Subset::broadcast_at, crate::specs::Subset::agreement_at, steps::specs::Steps::put_all))]
 fn answer_at(
     epoch: &mut [u64],
     net: NetworkInfo,
     error: Failure,
-    content: Content,
     kind: AnswerKind,
     p: usize,
     reader: &mut Reader,
@@ -81,18 +89,23 @@ fn answer_at(
 ) -> Result<(), Stop>
     requires { EpochWords net.num_nodes epoch.old × (p < net.num_nodes) }
     ensures run { left epoch.new result reader.new writer.new
-        ≡ leaves (out_of writer.old) (answer_at net (failure_number error) content (answer_number kind) p epoch.old reader.old) }
+        ≡ leaves (out_of writer.old) (answer_at net (failure_number error) (content_of kind) (answer_number kind) p epoch.old reader.old) }
     ensures table { same_table writer.old writer.new }
 {
     let state = words::load_proposal(epoch, net.num_nodes, p);
-    let moved = match content {
-        Content::Broadcast if state.asks_broadcast() => {
+    let moved = match kind {
+        AnswerKind::BroadcastProposal | AnswerKind::BroadcastMessage => {
+            if !state.asks_broadcast() {
+                return Ok(());
+            }
             state.handle_broadcast(error, p, kind, reader, writer)
         }
-        Content::Agreement if state.asks_agreement() => {
+        _ => {
+            if !state.asks_agreement() {
+                return Ok(());
+            }
             state.handle_agreement(error, p, kind, reader, writer)
         }
-        _ => return Ok(()),
     };
     store_transition(epoch, net, p, moved)
 }
@@ -110,9 +123,9 @@ fn vote_all(
         ≡ leaves (out_of writer.old) (vote_from net (failure_number error) net.num_nodes 0 epoch.old reader.old) }
     ensures table { same_table writer.old writer.new }
 {
-    let (content, kind) = (Content::Agreement, AnswerKind::ProposeFalse);
+    let kind = AnswerKind::ProposeFalse;
     for p in 0..net.num_nodes {
-        answer_at(epoch, net, error, content, kind, p, reader, writer)?;
+        answer_at(epoch, net, error, kind, p, reader, writer)?;
     }
     Ok(())
 }
@@ -182,15 +195,15 @@ pub fn propose(
     if !net.is_validator() {
         return Ok(false);
     }
-    let (content, kind) = (Content::Broadcast, AnswerKind::BroadcastProposal);
-    let own = net.our_id;
-    answer_at(epoch, net, error, content, kind, own, reader, writer)?;
+    let kind = AnswerKind::BroadcastProposal;
+    answer_at(epoch, net, error, kind, net.our_id, reader, writer)?;
     try_output(epoch, net, error, reader, writer)
 }
 
 // The answer that a message of this content asks for.
 fn message_kind(content: Content) -> AnswerKind
-    ensures { answer_number result ≡ message_kind content }
+    ensures number { answer_number result ≡ message_kind content }
+    ensures content { content_of result ≡ content }
 {
     match content {
         Content::Broadcast => AnswerKind::BroadcastMessage,
@@ -214,6 +227,6 @@ pub fn handle_message(
     ensures table { same_table writer.old writer.new }
 {
     let kind = message_kind(content);
-    answer_at(epoch, net, error, content, kind, proposer, reader, writer)?;
+    answer_at(epoch, net, error, kind, proposer, reader, writer)?;
     try_output(epoch, net, error, reader, writer)
 }

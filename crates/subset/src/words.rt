@@ -1,10 +1,11 @@
 // A proposal and the list of contributions in the words of an epoch, and the proposals whose tag is in a given set, as a word of bits.
 ghost use Rattle.std.specs.Prelude.{◌≡◌, cond, ◌+◌, ◌*◌, ◌^◌, ◌<◌, ◌≤◌, length};
-ghost use Rattle.subset.specs.Words.{records_at, record_at, proposal_of, tag_of, value_of, load_proposal, store_proposal, add_contribution};
-ghost use Rattle.subset.specs.Bits.{tag_in, proposals_in};
+ghost use Rattle.subset.specs.Words.{records_at, field_at, record_at, proposal_of, tag_of, value_of, load_proposal, store_proposal, add_contribution};
+ghost use Rattle.subset.specs.Bits.{proposals_in};
 ghost use Rattle.subset.specs.Outcomes.{EpochWords};
 
 use proposal::ProposalState;
+use steps::bits::has_bit;
 
 // Where the records begin, and the length of a record besides its n shares.
 pub const RECORDS_AT: usize = 16;
@@ -23,7 +24,8 @@ pub const VALUE_FIELD: usize = 1;
 
 pub const ARRIVAL_FIELD: usize = 7;
 
-// A proposal's tag, a number because it stands in a word that the host keeps (docs/STATE.md). It is read and written here alone.
+// A proposal's tag, a number because it stands in a word that the host keeps (docs/STATE.md). What the code hands on is a `ProposalState`; beside
+// this file the range rule of an epoch tests the word (epochwords/range.rt), and an epoch that drops a proposal clears it.
 pub const TAG_ONGOING: u64 = 0;
 
 pub const TAG_HAS_VALUE: u64 = 1;
@@ -34,19 +36,29 @@ pub const TAG_COMPLETE_FALSE: u64 = 3;
 
 pub const TAG_COMPLETE_TRUE: u64 = 4;
 
-// Sets of tags, a bit for each: the agreement has decided 1; the value is here, or was output; neither rejected nor output.
-pub const ACCEPTED_TAGS: u64 = 20;
+// Sets of tags, a bit for each: the agreement has decided 1; the value is here, or was output; neither rejected nor output. Each says of
+// a tag what `accepted`, `received` and not `complete` say of a `ProposalState` (proofs/Bits.antt: `Means`), and stands beside them because proposals
+// are counted as ones of a word (docs/DECISIONS.md, 'Forms'): a state would be made of each record only to be tested.
+pub const ACCEPTED_TAGS: u64 = 1 << TAG_ACCEPTED | 1 << TAG_COMPLETE_TRUE;
 
-pub const RECEIVED_TAGS: u64 = 18;
+pub const RECEIVED_TAGS: u64 = 1 << TAG_HAS_VALUE | 1 << TAG_COMPLETE_TRUE;
 
-pub const INCOMPLETE_TAGS: u64 = 7;
+pub const INCOMPLETE_TAGS: u64 = 1 << TAG_ONGOING | 1 << TAG_HAS_VALUE | 1 << TAG_ACCEPTED;
+
+// Where word `field` of proposer p's record is, where a record has `size` words.
+fn field_at(size: usize, p: usize, field: usize) -> usize
+    requires { field_at size p field < 2 ^ 64 }
+    ensures { result ≡ field_at size p field }
+{
+    RECORDS_AT + p * size + field
+}
 
 // Where word `field` of proposer p's record is.
 pub fn record_at(n: usize, p: usize, field: usize) -> usize
     requires { (n ≤ 16) × (p < n) × (field < 8 + n) }
     ensures { result ≡ record_at n p field }
 {
-    RECORDS_AT + p * (RECORD_FIELDS + n) + field
+    field_at(RECORD_FIELDS + n, p, field)
 }
 
 // The two words of a proposal.
@@ -124,23 +136,15 @@ pub fn add_contribution(epoch: &mut [u64], n: usize, p: usize, value: u64)
     }
 }
 
-// Whether a tag is in a set of tags.
-#[tactic(auto, unfolding(crate::specs::Bits::tag_in, steps::specs::Bits::has_bit))]
-fn tag_in(tags: u64, tag: u64) -> bool
-    ensures { result ≡ tag_in tags tag }
-{
-    (tags >> tag.min(TAG_COMPLETE_TRUE)) % 2 == 1
-}
-
-// Of n proposals, in records of `size` words each, those whose tag is in the set.
+// Of n proposals, in records of `size` words each, those whose tag is in the set. A tag above the last reads as the last.
 pub fn proposals_in(epoch: &[u64], size: usize, n: usize, tags: u64) -> u64
     requires { (n ≤ 16) × (1 ≤ size) × (records_at + n * size ≤ length epoch.now) }
     ensures { result ≡ proposals_in size tags n epoch.now }
 {
     let mut bits: u64 = 0;
     for p in 0..n {
-        let tag = epoch[RECORDS_AT + p * size + PROPOSAL_FIELD];
-        bits += u64::from(tag_in(tags, tag)) << p;
+        let tag = epoch[field_at(size, p, PROPOSAL_FIELD)].min(TAG_COMPLETE_TRUE);
+        bits += u64::from(has_bit(tags, tag as usize)) << p;
     }
     bits
 }

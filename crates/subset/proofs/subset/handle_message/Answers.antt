@@ -5,7 +5,7 @@ use Rattle.subset.proofs.subset.handle_message.Goals as goal
 
 pub returns-in_err-answer_at-clause-run : goal.returns-in_err-answer_at-clause-run
 returns-in_err-answer_at-clause-run c =
-    rw (stops _ _ c.from_residual.ensures.1, message_onward c.args.net) (onward_err _ _ _ _ c.answer_at.new.writer _ _ (rw c.message_kind-kind.ensures at c.in_err-answer_at.ensures.run))
+    rw (stops _ _ c.from_residual.ensures.1, message_onward c.args.net) (onward_err _ _ _ _ c.answer_at.new.writer _ _ (rw (c.message_kind-kind.ensures.number, c.message_kind-kind.ensures.content) at c.in_err-answer_at.ensures.run))
 
 pub returns-clause-run : goal.returns-clause-run
-returns-clause-run c = rw (message_onward c.args.net) (onward_ok _ _ _ _ c.answer_at.new.writer _ _ (rw c.message_kind-kind.ensures at c.in_ok-answer_at.ensures.run) _ c.try_output.ensures.run)
+returns-clause-run c = rw (message_onward c.args.net) (onward_ok _ _ _ _ c.answer_at.new.writer _ _ (rw (c.message_kind-kind.ensures.number, c.message_kind-kind.ensures.content) at c.in_ok-answer_at.ensures.run) _ c.try_output.ensures.run)

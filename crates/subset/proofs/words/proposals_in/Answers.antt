@@ -13,10 +13,12 @@ abbrev of : ℕ → ℕ → List ℕ → ℕ → Bool
 of size tags w i = tag_in tags (proposal_tag size w i)
 
 pub overflow_add-bits : goal.overflow_add-bits
-overflow_add-bits c = omega (arith, bits_turn (of c.args.size c.args.tags c.args.epoch.now) c.args.n c.loop-p.p c.loop-p-test.true, bits_small (of c.args.size c.args.tags c.args.epoch.now) c.args.n c.requires.0, bit_of _ c.loop-p.p _ _ c.from.ensures c.tag_in.ensures (omega (arith, c.requires.0)))
+unfolding tag_in
+overflow_add-bits c = omega (arith, bits_turn (of c.args.size c.args.tags c.args.epoch.now) c.args.n c.loop-p.p c.loop-p-test.true, bits_small (of c.args.size c.args.tags c.args.epoch.now) c.args.n c.requires.0, bit_of _ c.loop-p.p _ _ c.from.ensures (rw (c.min-tag.ensures, c.field_at.ensures) at c.has_bit.ensures) (omega (arith, c.requires.0)))
 
 pub loop-p-preserved : goal.loop-p-preserved
-loop-p-preserved c = omega (arith, bits_turn (of c.args.size c.args.tags c.args.epoch.now) c.args.n c.loop-p.p c.loop-p-test.true, bit_of _ c.loop-p.p _ _ c.from.ensures c.tag_in.ensures (omega (arith, c.requires.0)))
+unfolding tag_in
+loop-p-preserved c = omega (arith, bits_turn (of c.args.size c.args.tags c.args.epoch.now) c.args.n c.loop-p.p c.loop-p-test.true, bit_of _ c.loop-p.p _ _ c.from.ensures (rw (c.min-tag.ensures, c.field_at.ensures) at c.has_bit.ensures) (omega (arith, c.requires.0)))
 
 pub returns : goal.returns
 unfolding proposals_in
