@@ -1,4 +1,4 @@
--- THE PAPER'S RULE (Miller et al., CCS 2016, as document 01 words it) over one run of the engine without a failing call: `EngineRule`,
+-- THE PAPER'S RULE (Miller et al., CCS 2016) over one run of the engine without a failing call: `EngineRule`,
 -- proved as `engine_rule` in proofs/Demand2.antt. And the range rule over every call.
 use Rattle.std.specs.Prelude.{ℕ, ◌+◌, ◌≤◌, ◌<◌, ◌≡◌, ◌≢◌, Bool, true, false, cond, ◌&&◌, not, eqb}
 use mathlib.Core.List.{List, [], ◌∷◌, ◌++◌, Memᴰ}

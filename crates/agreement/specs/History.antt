@@ -1,4 +1,4 @@
--- What happened in a run, told from its calls, their chains of answers and their step words alone (document 01, 'Rules to keep').
+-- What happened in a run, told from its calls, their chains of answers and their step words alone (docs/EVIDENCE.md, 'Rules to keep').
 use Rattle.std.specs.Prelude.{ℕ, zero, suc, ◌+◌, max, List, [], ◌∷◌, ◌++◌, Bool, true, false, cond, ◌&&◌, length, take, drop, eqb, ltb}
 use Rattle.std.specs.Prelude.{Option, None, Some}
 use Rattle.steps.specs.Numbers.{share_content, success, ciphertext_reads, ciphertext_verifies, contribution_decrypted, contribution_reads}

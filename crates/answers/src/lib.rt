@@ -1,4 +1,4 @@
-// Reply 5: whether a table of words is an answer table, as document 01 has it.
+// Reply 5: whether a table of words is an answer table (include/belkjund.h).
 #![tactic(auto)]
 
 ghost use Rattle.std.specs.Prelude.{◌≡◌, ◌/◌, ◌<◌, ◌≤◌, true, length};
@@ -14,11 +14,12 @@ use steps::numbers::{
 pub fn is_handle(b: u64) -> bool
     ensures { result ≡ handle b }
 {
-    (1 <= b) & (b <= HANDLE_LIMIT)
+    (1..=HANDLE_LIMIT).contains(&b)
 }
 
 // Whether a record keeps its kind's own range for a and b. The context is the kind of the answer that a part would belong to, or 0.
-// Kinds are the numbers that the host writes, any number among them, and 0 is none of them: an Option beside would let `Some(0)`, and be no plainer.
+// Kinds are numbers: it is asked about any number that the host writes, where an `AnswerKind` would ask more of callers, and ranges of kinds
+// share a rule.
 #[tactic(auto, unfolding(steps::specs::Table::record_ok))]
 pub fn record_ok(n: u64, context: u64, kind: u64, a: u64, b: u64) -> bool
     ensures { result ≡ record_ok n context kind a b }

@@ -1,5 +1,5 @@
--- The twelve bench cases of document 01 (case 10 as request g has it), as one table under one statement, `bench_cases`, which is proved by computing the definitions.
--- Where the rows that the document gives would not refuse one of its plausible but wrong programs, there are more. Assumes nothing.
+-- The twelve bench cases that the engine's owner gave (case 10 as docs/changes/g.md has it), as one table under one statement, `bench_cases`, which is proved by computing the definitions.
+-- Where the rows that were given would not refuse one of its plausible but wrong programs, there are more. Assumes nothing.
 use Prim.Native.Nat.{ℕ}
 use mathlib.Core.Path.{refl}
 use mathlib.Core.List.{List, [], ◌∷◌, ◌++◌}
@@ -276,7 +276,7 @@ case_9_batch =
     ∷ (current_epoch ⇒ 0 ∷ 2 ∷ [])
     ∷ []
 
--- CASE 10, as request g has it. "(1,1) encrypts 0 and not 1." So the chain of case 1 lacks kind 8 in epoch 0, and passes in epoch 1
+-- CASE 10, as docs/changes/g.md has it. "(1,1) encrypts 0 and not 1." So the chain of case 1 lacks kind 8 in epoch 0, and passes in epoch 1
 abbrev pub case_10 : Rows
 case_10 =
     (create (numbers 1 0 0 0 1 0 0 3 1 1) 41 ⇒ 0 ∷ [])

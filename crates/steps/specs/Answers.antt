@@ -69,7 +69,7 @@ abbrev pub verdict_of : Answer → Verdict (ℕ × ℕ)
 verdict_of (Got a b) = going (a, b)
 verdict_of Refused = refused
 
--- what reading gave, document 01's number for it (0, or 8), and the tape afterwards
+-- what reading gave, its reply (0, or 8), and the tape afterwards
 pub record Asked : Type 0 where
   pub answer : Answer
   pub reply : ℕ

@@ -1,4 +1,4 @@
--- The batches and unreadable contributions that the words of a step tell (document 01, 'Rules to keep').
+-- The batches and unreadable contributions that the words of a step tell (docs/EVIDENCE.md, 'Rules to keep').
 use Rattle.std.specs.Prelude.{ℕ, List, [], ◌∷◌, ◌++◌, cond, get_or, eqb}
 use Rattle.steps.specs.Numbers.{batch_output, entry_output, batch_deserialization_failed}
 use Rattle.steps.specs.Answers.{Rec, chain}

@@ -1,4 +1,4 @@
--- Document 01's numbers for the kinds of the code, and what a result stands for.
+-- The interface's numbers for the kinds of the code, and what a result stands for.
 use Rattle.std.specs.Prelude.{ℕ, Result, Ok, Err}
 use Rattle.steps.specs.Numbers.{instances_built, proposal_serialised, broadcast_proposal, broadcast_message, agreement_message, propose_true, propose_false, ciphertext_reads, ciphertext_verifies, share_verifies, own_decryption_share, contribution_decrypted, contribution_reads, broadcast_content, agreement_content, share_content, unexpected_hb_message_epoch, unexpected_decryption_share, deserialize_ciphertext, invalid_ciphertext, batch_deserialization_failed, multiple_decryption_shares, unverified_decryption_share_sender, broadcast_fault, agreement_fault, batch_output, entry_output, create_subset, propose_bincode, input_subset, handle_subset_message, decryption, multiple_inputs}
 use Rattle.steps.specs.Verdicts.{Verdict, going, refused, failed}

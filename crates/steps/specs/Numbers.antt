@@ -1,4 +1,5 @@
--- Document 01's numbers by name, for every crate. Where the Rust has a name, it is the Rust's.
+-- The interface's numbers (include/belkjund.h) by name, for every crate. Where the Rust has a name, it is the Rust's. What stands in
+-- quotes, here and in other files, is the wording of the engine's owner.
 use Rattle.std.specs.Prelude.{ℕ}
 
 -- ANSWER KINDS: what an answer tells

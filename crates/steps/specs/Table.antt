@@ -1,4 +1,4 @@
--- Reply 5's rule: which words are an answer table (document 01, 'Answer table and step table').
+-- Reply 5's rule: which words are an answer table (docs/EVIDENCE.md, 'Answer table and step table').
 use Rattle.std.specs.Prelude.{ℕ, zero, suc, ◌+◌, ◌*◌, ◌/◌, ◌%◌, Bool, true, false, cond, ◌&&◌, ◌||◌, List, length, get_or, eqb, leb, ltb}
 use Rattle.steps.specs.Numbers.{handle_limit, table_limit, instances_built, proposal_serialised, broadcast_proposal, broadcast_message, propose_false, share_verifies, own_decryption_share, contribution_decrypted, contribution_reads, message_part, fault_part, output_part}
 

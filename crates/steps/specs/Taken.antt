@@ -1,4 +1,4 @@
--- What a chain of answers tells: outputs, plaintexts, votes and readings (document 01, 'Rules to keep').
+-- What a chain of answers tells: outputs, plaintexts, votes and readings (docs/EVIDENCE.md, 'Rules to keep').
 use Rattle.std.specs.Prelude.{ℕ, zero, suc, ◌+◌, List, [], ◌∷◌, ◌++◌, Bool, true, false, cond, ◌&&◌, ◌||◌, eqb}
 use Rattle.std.specs.Prelude.{Option, None, Some}
 use Rattle.steps.specs.Numbers.{broadcast_proposal, broadcast_message, agreement_message, propose_false, ciphertext_reads, contribution_decrypted, contribution_reads, output_part}

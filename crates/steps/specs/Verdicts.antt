@@ -8,7 +8,7 @@ pub data Verdict (A : Type 0) : Type 0 where
   refused : Verdict A
   failed : ℕ → Verdict A
 
--- document 01's number
+-- the reply that it leads to
 unfoldable pub number_of : {A : Type 0} → Verdict A → ℕ
 number_of (going a) = success
 number_of refused = answer_not_next

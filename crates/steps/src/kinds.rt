@@ -1,5 +1,5 @@
-// The kinds of answers, messages, faults, outputs and failures. `u64::from` gives document 01's number (specs/Kinds.antt).
-ghost use Rattle.std.specs.Prelude.{◌≡◌};
+// The kinds of answers, messages, faults, outputs and failures. `u64::from` gives the interface's number (specs/Kinds.antt).
+ghost use Rattle.std.specs.Prelude.{◌≡◌, ◌≢◌, MatchResult};
 ghost use Rattle.steps.specs.Kinds.{answer_number, message_number, fault_number, output_number, failure_number};
 
 // What an answer tells.
@@ -23,7 +23,7 @@ pub enum AnswerKind {
     ContributionReads = 13,
 }
 
-// The contents of a message that comes in, and the kinds of the step's messages.
+// The kinds of the step's messages. A message that comes in has the numbers of these as its content (`BROADCAST_CONTENT` and the others).
 #[derive(Clone, Copy, Debug, PartialEq, Eq)]
 pub enum MessageKind {
     Broadcast = 1,
@@ -70,11 +70,43 @@ pub enum Stop {
     Failed(Failure),
 }
 
+// Each `From` is written out: the gate refuses an impl that a macro or derive of our own writes.
 impl From<AnswerKind> for u64 {
     ghost from_gives = { λ kind number. number ≡ answer_number kind };
 
     fn from(kind: AnswerKind) -> u64 {
         kind as u64
+    }
+}
+
+// A number that no answer kind has.
+#[derive(Clone, Copy, Debug, PartialEq, Eq)]
+pub struct NoKind(pub u64);
+
+impl TryFrom<u64> for AnswerKind {
+    type Error = NoKind;
+
+    ghost use Rattle.steps.specs.declared.kinds.AnswerKind.{AnswerKind};
+
+    ghost try_from_gives = { λ number r. MatchResult r (λ kind. number ≡ answer_number kind) (λ none. (none.0 ≡ number) × ((kind : AnswerKind) → number ≢ answer_number kind)) };
+
+    fn try_from(number: u64) -> Result<Self, NoKind> {
+        match number {
+            1 => Ok(AnswerKind::InstancesBuilt),
+            2 => Ok(AnswerKind::ProposalSerialised),
+            3 => Ok(AnswerKind::BroadcastProposal),
+            4 => Ok(AnswerKind::BroadcastMessage),
+            5 => Ok(AnswerKind::AgreementMessage),
+            6 => Ok(AnswerKind::ProposeTrue),
+            7 => Ok(AnswerKind::ProposeFalse),
+            8 => Ok(AnswerKind::CiphertextReads),
+            9 => Ok(AnswerKind::CiphertextVerifies),
+            10 => Ok(AnswerKind::ShareVerifies),
+            11 => Ok(AnswerKind::OwnDecryptionShare),
+            12 => Ok(AnswerKind::ContributionDecrypted),
+            13 => Ok(AnswerKind::ContributionReads),
+            _ => Err(NoKind(number)),
+        }
     }
 }
 

@@ -1,24 +1,27 @@
-// Document 01's numbers by name, for every crate (specs/Numbers.antt has the same for the definitions). What the code hands about is an enum
-// (kinds.rt, and `Refusal` of the crate calls); those here are compared with words that the host lends, or printed.
+// The interface's numbers by name, for every crate (specs/Numbers.antt has the same for the definitions). What the code hands about is an enum
+// (kinds.rt, and `Refusal` of the crate calls). The numbers here are compared with words that the host lends, are limits, or are replies, as
+// the calls answer them.
+
+use crate::kinds::{AnswerKind, MessageKind};
 
 // Answer kinds in a table of the host's: the ends of ranges with one rule, and kinds with a rule of their own.
-pub const INSTANCES_BUILT: u64 = 1;
+pub const INSTANCES_BUILT: u64 = AnswerKind::InstancesBuilt as u64;
 
-pub const PROPOSAL_SERIALISED: u64 = 2;
+pub const PROPOSAL_SERIALISED: u64 = AnswerKind::ProposalSerialised as u64;
 
-pub const BROADCAST_PROPOSAL: u64 = 3;
+pub const BROADCAST_PROPOSAL: u64 = AnswerKind::BroadcastProposal as u64;
 
-pub const BROADCAST_MESSAGE: u64 = 4;
+pub const BROADCAST_MESSAGE: u64 = AnswerKind::BroadcastMessage as u64;
 
-pub const PROPOSE_FALSE: u64 = 7;
+pub const PROPOSE_FALSE: u64 = AnswerKind::ProposeFalse as u64;
 
-pub const SHARE_VERIFIES: u64 = 10;
+pub const SHARE_VERIFIES: u64 = AnswerKind::ShareVerifies as u64;
 
-pub const OWN_DECRYPTION_SHARE: u64 = 11;
+pub const OWN_DECRYPTION_SHARE: u64 = AnswerKind::OwnDecryptionShare as u64;
 
-pub const CONTRIBUTION_DECRYPTED: u64 = 12;
+pub const CONTRIBUTION_DECRYPTED: u64 = AnswerKind::ContributionDecrypted as u64;
 
-pub const CONTRIBUTION_READS: u64 = 13;
+pub const CONTRIBUTION_READS: u64 = AnswerKind::ContributionReads as u64;
 
 // The parts of an answer.
 pub const MESSAGE_PART: u64 = 16;
@@ -27,12 +30,12 @@ pub const FAULT_PART: u64 = 17;
 
 pub const OUTPUT_PART: u64 = 18;
 
-// The contents of a message that comes in.
-pub const BROADCAST_CONTENT: u64 = 1;
+// The contents of a message that comes in: numbered as the step's messages are.
+pub const BROADCAST_CONTENT: u64 = MessageKind::Broadcast as u64;
 
-pub const AGREEMENT_CONTENT: u64 = 2;
+pub const AGREEMENT_CONTENT: u64 = MessageKind::Agreement as u64;
 
-pub const SHARE_CONTENT: u64 = 3;
+pub const SHARE_CONTENT: u64 = MessageKind::Share as u64;
 
 // Replies.
 pub const SUCCESS: u64 = 0;

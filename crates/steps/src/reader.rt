@@ -1,4 +1,4 @@
-// The answer reader: the records of the chain, one after the other. The cursor is lent and its place moves past what was read.
+// The answer reader: the records of the chain, one after the other. The reader is lent, and its place moves past what was read.
 ghost use Rattle.std.specs.Prelude.{◌≡◌, cond, ltb, Some, Ok, drop};
 ghost use Rattle.steps.specs.Answers.{chain, tape, tape_of, first_record, is_end, ask, ask_about, last_index};
 ghost use Rattle.steps.specs.Steps.{put_all};
@@ -78,20 +78,19 @@ impl Content {
 
 impl Record {
     // Whether it is a part of the answer before it.
+    #[tactic(auto, unfolding(crate::specs::Parts::is_part))]
     fn is_part(self) -> bool
         ensures { result ≡ is_part self.kind }
     {
-        (MESSAGE_PART <= self.kind) & (self.kind <= OUTPUT_PART)
+        (MESSAGE_PART..=OUTPUT_PART).contains(&self.kind)
     }
 
     // A part's output.
+    #[tactic(auto, unfolding(crate::specs::Parts::output_of))]
     fn output(self) -> Option<u64>
         ensures { result ≡ output_of self.kind self.b }
     {
-        if self.kind == OUTPUT_PART {
-            return Some(self.b);
-        }
-        None
+        (self.kind == OUTPUT_PART).then_some(self.b)
     }
 
     // Writes a part's message or fault.
@@ -158,8 +157,7 @@ impl<'a> Reader<'a> {
     pub fn place(&self) -> usize
         ensures { result ≡ self.now.place }
     {
-        let cursor = self.cursor;
-        cursor.place
+        self.cursor.place
     }
 
     // The next record, which is not taken.
@@ -184,7 +182,8 @@ impl<'a> Reader<'a> {
         self.cursor.place = found.next;
     }
 
-    // The next record, if it is the wanted one.
+    // The next record, if it is the wanted one: its words a and b. Each answer kind reads them in its own way, b says something beside an a of 0
+    // too, and a may be any number, so that they are the pair and no Option.
     fn take(&mut self, found: Record, wanted: bool) -> Result<(u64, u64), Stop>
         requires { first_record self.old.rest ≡ Some found }
         ensures { told result self.new ≡ taken wanted found self.old }

@@ -24,7 +24,8 @@ pub struct Step {
     pub outputs: Chain,
 }
 
-// A step with the table that it is written to, lent to each layer.
+// A step with the table that it is written to, lent to each layer. It stands beside the reader in parameter lists and in no struct with it: that
+// would hold two `&mut`, and each function that is lent it would owe that both are the same after it, as `same_table` says of the words here.
 #[derive(Drop)]
 pub struct Writer<'a> {
     pub step: Step,
@@ -32,6 +33,7 @@ pub struct Writer<'a> {
 }
 
 // The next of the record before record `i`: none at the end of its chain.
+#[tactic(auto, unfolding(crate::specs::Steps::next_of))]
 fn next_of(i: usize, end: usize) -> u64
     ensures { result ≡ next_of i end }
 {
@@ -40,14 +42,11 @@ fn next_of(i: usize, end: usize) -> u64
 
 impl Chain {
     // The index of the first record, 0 where there is none.
+    #[tactic(auto, unfolding(crate::specs::Steps::first_of, crate::specs::Steps::next_of))]
     fn first(self) -> u64
         ensures { result ≡ first_of self }
     {
-        if self.at == self.end {
-            0
-        } else {
-            self.at as u64
-        }
+        next_of(self.at, self.end)
     }
 
     // Writes the next record of the chain, where the table has it.
@@ -92,16 +91,13 @@ impl Step {
         let faults = 1 + self.messages.at;
         let outputs = faults + self.faults.at;
         let end = outputs + self.outputs.at;
-        let m = Chain { at: 1, end: faults };
-        let f = Chain {
-            at: faults,
-            end: outputs,
-        };
-        let o = Chain { at: outputs, end };
         Step {
-            messages: m,
-            faults: f,
-            outputs: o,
+            messages: Chain { at: 1, end: faults },
+            faults: Chain {
+                at: faults,
+                end: outputs,
+            },
+            outputs: Chain { at: outputs, end },
         }
     }
 
@@ -118,12 +114,9 @@ impl Step {
         requires { 4 ≤ length words.old }
         ensures { words.new ≡ put_header words.old self epoch }
     {
-        let messages = self.messages;
-        let faults = self.faults;
-        let outputs = self.outputs;
-        words[0] = messages.first();
-        words[1] = faults.first();
-        words[2] = outputs.first();
+        words[0] = self.messages.first();
+        words[1] = self.faults.first();
+        words[2] = self.outputs.first();
         words[3] = epoch;
     }
 }

@@ -62,23 +62,6 @@ fn show<W: Write>(out: &mut W, words: &[u64]) -> io::Result<()> {
     line_ends(out)
 }
 
-// The answer kinds, from 1 on.
-const KINDS: [AnswerKind; 13] = [
-    AnswerKind::InstancesBuilt,
-    AnswerKind::ProposalSerialised,
-    AnswerKind::BroadcastProposal,
-    AnswerKind::BroadcastMessage,
-    AnswerKind::AgreementMessage,
-    AnswerKind::ProposeTrue,
-    AnswerKind::ProposeFalse,
-    AnswerKind::CiphertextReads,
-    AnswerKind::CiphertextVerifies,
-    AnswerKind::ShareVerifies,
-    AnswerKind::OwnDecryptionShare,
-    AnswerKind::ContributionDecrypted,
-    AnswerKind::ContributionReads,
-];
-
 // What an answer about a node came to: refused, a = 0, or its last output if it had one. As `Result<Option<Option<u64>>, Stop>` the outcomes
 // would have no names, and no `Display` of ours.
 #[derive(Clone, Copy)]
@@ -109,26 +92,25 @@ fn content_of(kind: AnswerKind) -> Content {
 
 // An answer of this kind about this node, with its parts. No answer has a kind that there is not.
 fn hear(answers: &[u64], kind: u64, who: usize, writer: &mut Writer) -> Told {
-    let Some(kind) = KINDS.iter().find(|known| u64::from(**known) == kind) else {
+    let Ok(kind) = AnswerKind::try_from(kind) else {
         return Told::Refused;
     };
     let mut reader = Reader::new(answers);
-    match reader.ask_about(*kind, who) {
+    match reader.ask_about(kind, who) {
         Err(_) => Told::Refused,
         Ok((0, _)) => Told::No,
-        Ok(_) => Told::Output(reader.read_parts(content_of(*kind), who, writer)),
+        Ok(_) => Told::Output(reader.read_parts(content_of(kind), who, writer)),
     }
 }
 
-// Writes a counted step's header and answers the step that writes its records.
-fn begin(counted: Step, words: &mut [u64], epoch: u64) -> Step {
+// Writes a counted step's header and answers the step that writes its records. No struct as `SmallStep` of the program epochs: the
+// table has 20 words whatever was counted, and a longer step is written as far as they go.
+fn begin(counted: Step, words: &mut [u64; 20], epoch: u64) -> Step {
     if 9 < counted.messages.at || 9 < counted.faults.at || 9 < counted.outputs.at {
         return Step::counting();
     }
     let step = counted.writing();
-    if 4 <= words.len() {
-        step.header(words, epoch);
-    }
+    step.header(words, epoch);
     step
 }
 
