@@ -6,7 +6,8 @@ ghost use Rattle.state.specs.Schedule.{schedule_of};
 ghost use Rattle.state.specs.State.{header_length, nodes, schedule, first_number, second_number, epochs_at, net_of, strategy_of, encrypted_in, place_of, epoch_words, with_epoch, without_epoch};
 ghost use Rattle.state.specs.Shape.{StateWords, Divides};
 
-use crate::schedule::schedule_of;
+use crate::EncryptionSchedule;
+use crate::schedule::ScheduleNumbers;
 use epochwords::SubsetHandlingStrategy;
 use epochwords::words::copy;
 use network::network_info::NetworkInfo;
@@ -57,6 +58,7 @@ pub fn epochs_at(n: usize) -> usize
     requires { n ≤ node_limit }
     ensures { result ≡ epochs_at n }
 {
+    // The definition takes n, for layouts whose epochs begin elsewhere.
     let _ = n;
     HEADER_LENGTH
 }
@@ -83,18 +85,25 @@ pub fn strategy_of(state: &[u64]) -> SubsetHandlingStrategy
     SubsetHandlingStrategy::from(state[STRATEGY_AT])
 }
 
+// The schedule's numbers.
+pub fn schedule_numbers(state: &[u64]) -> ScheduleNumbers
+    requires { header_length ≤ length state.now }
+    ensures { (result.kind ≡ schedule state.now) × (result.first ≡ first_number state.now) × (result.second ≡ second_number state.now) }
+{
+    ScheduleNumbers {
+        kind: state[SCHEDULE_AT],
+        first: state[FIRST_NUMBER_AT],
+        second: state[SECOND_NUMBER_AT],
+    }
+}
+
 // Whether contributions in this epoch are encrypted.
 #[tactic(auto, unfolding(crate::specs::State::encrypted_in))]
 pub fn encrypted_in(state: &[u64], epoch: u64) -> bool
     requires { (header_length ≤ length state.now) × Divides (schedule_of (schedule state.now) (first_number state.now) (second_number state.now)) }
     ensures { result ≡ encrypted_in state.now epoch }
 {
-    let schedule = schedule_of(
-        state[SCHEDULE_AT],
-        state[FIRST_NUMBER_AT],
-        state[SECOND_NUMBER_AT],
-    );
-    schedule.use_on_epoch(epoch)
+    EncryptionSchedule::from(schedule_numbers(state)).use_on_epoch(epoch)
 }
 
 // Where epoch e lives.
@@ -109,18 +118,28 @@ pub fn place_of(state: &[u64], epoch: u64) -> usize
     epochs_at(n) + place * length
 }
 
-// Copies the words of an epoch out of the state.
+// The words of an epoch.
 #[tactic(auto, using(crate::proofs::WordsCode::place_inside, crate::proofs::WordsCode::state_small))]
+pub fn epoch_in(state: &[u64], epoch: u64) -> &[u64]
+    requires { StateWords state.now }
+    ensures { result.now ≡ epoch_words state.now epoch }
+{
+    let at = place_of(state, epoch);
+    let end = at + epoch_length(state[NODES_AT] as usize);
+    &state[at..end]
+}
+
+// Copies the words of an epoch out of the state.
+#[tactic(auto, using(crate::proofs::WordsCode::words_epoch))]
 pub fn load(state: &[u64], epoch: u64, words: &mut [u64])
     requires { StateWords state.now × (length words.old ≡ epoch_length (nodes state.now)) }
     ensures { words.new ≡ epoch_words state.now epoch }
 {
-    let at = place_of(state, epoch);
-    let end = at + words.len();
-    copy(&state[at..end], words);
+    copy(epoch_in(state, epoch), words);
 }
 
-// Copies the words of an epoch to their place in the state.
+// Copies the words of an epoch to their place in the state. Here and in `clear_epoch` the part is cut out anew: a function that lends it with `&mut` owes how
+// a write comes back, which is no plainer.
 #[tactic(auto, using(crate::proofs::WordsCode::place_inside, crate::proofs::WordsCode::state_small))]
 pub fn store(state: &mut [u64], epoch: u64, words: &[u64])
     requires { StateWords state.old × (length words.now ≡ epoch_length (nodes state.old)) }
