@@ -1,5 +1,5 @@
 // The words of the state (docs/STATE.md): the header's words by name, where an epoch lives, and copying and clearing it.
-ghost use Rattle.std.specs.Prelude.{◌≡◌, ◌≤◌, length};
+ghost use Rattle.std.specs.Prelude.{◌≡◌, ◌+◌, ◌≤◌, length};
 ghost use Rattle.steps.specs.Numbers.{node_limit};
 ghost use Rattle.subset.specs.Words.{epoch_length};
 ghost use Rattle.state.specs.Schedule.{schedule_of};
@@ -11,6 +11,7 @@ use crate::schedule::ScheduleNumbers;
 use epochwords::SubsetHandlingStrategy;
 use epochwords::words::copy;
 use network::network_info::NetworkInfo;
+use std::ops::Range;
 use subset::words::{RECORD_FIELDS, RECORDS_AT};
 
 pub const HEADER_LENGTH: usize = 16;
@@ -118,15 +119,23 @@ pub fn place_of(state: &[u64], epoch: u64) -> usize
     epochs_at(n) + place * length
 }
 
-// The words of an epoch.
+// Which words of the state are those of an epoch.
 #[tactic(auto, using(crate::proofs::WordsCode::place_inside, crate::proofs::WordsCode::state_small))]
+fn part_of(state: &[u64], epoch: u64) -> Range<usize>
+    requires { StateWords state.now }
+    ensures { (result.start ≡ place_of state.now epoch) × (result.end ≡ place_of state.now epoch + epoch_length (nodes state.now)) }
+{
+    let at = place_of(state, epoch);
+    at..at + epoch_length(state[NODES_AT] as usize)
+}
+
+// The words of an epoch.
+#[tactic(auto, using(crate::proofs::WordsCode::place_inside))]
 pub fn epoch_in(state: &[u64], epoch: u64) -> &[u64]
     requires { StateWords state.now }
     ensures { result.now ≡ epoch_words state.now epoch }
 {
-    let at = place_of(state, epoch);
-    let end = at + epoch_length(state[NODES_AT] as usize);
-    &state[at..end]
+    &state[part_of(state, epoch)]
 }
 
 // Copies the words of an epoch out of the state.
@@ -138,26 +147,22 @@ pub fn load(state: &[u64], epoch: u64, words: &mut [u64])
     copy(epoch_in(state, epoch), words);
 }
 
-// Copies the words of an epoch to their place in the state. Here and in `clear_epoch` the part is cut out anew: a function that lends it with `&mut` owes how
-// a write comes back, which is no plainer.
-#[tactic(auto, using(crate::proofs::WordsCode::place_inside, crate::proofs::WordsCode::state_small))]
+// Copies the words of an epoch to their place in the state.
+#[tactic(auto, using(crate::proofs::WordsCode::place_inside))]
 pub fn store(state: &mut [u64], epoch: u64, words: &[u64])
     requires { StateWords state.old × (length words.now ≡ epoch_length (nodes state.old)) }
     ensures { state.new ≡ with_epoch state.old epoch words.now }
 {
-    let at = place_of(state, epoch);
-    let end = at + words.len();
-    copy(words, &mut state[at..end]);
+    let part = part_of(state, epoch);
+    copy(words, &mut state[part]);
 }
 
 // No epoch lives at the place of this one any more.
-#[tactic(auto, using(crate::proofs::WordsCode::place_inside, crate::proofs::WordsCode::state_small))]
+#[tactic(auto, using(crate::proofs::WordsCode::place_inside))]
 pub fn clear_epoch(state: &mut [u64], epoch: u64)
     requires { StateWords state.old }
     ensures { state.new ≡ without_epoch state.old epoch }
 {
-    let n = state[NODES_AT] as usize;
-    let at = place_of(state, epoch);
-    let end = at + epoch_length(n);
-    state[at..end].fill(0);
+    let part = part_of(state, epoch);
+    state[part].fill(0);
 }

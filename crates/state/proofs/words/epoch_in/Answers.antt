@@ -3,4 +3,4 @@ use Rattle.state.proofs.WordsCode.{part_words}
 use Rattle.state.proofs.words.epoch_in.Goals as goal
 
 pub returns : goal.returns
-returns c = part_words c.args.state.now c.args.epoch c.place_of-at.result c.epoch_length.result c.place_of-at.ensures c.epoch_length.ensures
+returns c = part_words c.args.state.now c.args.epoch c.part_of.result.start c.part_of.result.end c.part_of.ensures.0 c.part_of.ensures.1
