@@ -7,7 +7,7 @@ ghost use Rattle.engine.specs.Shape.{numbers_of};
 
 use calls::refusal::Refusal;
 use state::range::state_length;
-use state::schedule::{schedule_ok, used_numbers};
+use state::schedule::ScheduleNumbers;
 use state::words::{
     AHEAD_AT, EPOCH_AT, FAULTY_AT, FIRST_NUMBER_AT, KEY_AT, NODES_AT, OWN_AT, PROFILE_AT,
     SCHEDULE_AT, SECOND_NUMBER_AT, STRATEGY_AT,
@@ -30,7 +30,20 @@ pub struct Numbers {
 }
 
 impl Numbers {
-    // Whether the numbers are in their ranges. f is bounded before it is multiplied.
+    // The schedule's numbers.
+    fn schedule_numbers(self) -> ScheduleNumbers
+        ensures { (result.kind ≡ self.schedule) × (result.first ≡ self.first) × (result.second ≡ self.second) }
+    {
+        ScheduleNumbers {
+            kind: self.schedule,
+            first: self.first,
+            second: self.second,
+        }
+    }
+
+    // Whether the numbers are in their ranges. f is bounded before it is multiplied. Seven of the tests stand in `state::range` too: one
+    // function over both would take nine numbers, which both would have to put together, and a definition between the two lists of
+    // specs/, and is no plainer.
     pub fn are_ok(self) -> bool
         ensures { result ≡ numbers_ok (numbers_of self) }
     {
@@ -39,14 +52,14 @@ impl Numbers {
             return false;
         }
         let n = self.nodes;
-        ((1 <= n) & (n <= NODE_LIMIT))
+        (1..=NODE_LIMIT).contains(&n)
             & (3 * f < n)
             & (self.ahead <= AHEAD_LIMIT)
             & (self.own <= n)
             & (self.key <= 1)
             & (self.strategy <= 1)
             & (self.epoch <= LAST_EPOCH)
-            & schedule_ok(self.schedule, self.first, self.second)
+            & self.schedule_numbers().is_ok()
     }
 
     // Writes the state before any call: the numbers, and zeros.
@@ -54,7 +67,7 @@ impl Numbers {
         requires { length state.old ≡ state_length self.«nodes» self.«ahead» }
         ensures { state.new ≡ created (numbers_of self) }
     {
-        let used = used_numbers(self.schedule, self.first, self.second);
+        let used = self.schedule_numbers().used();
         state.fill(0);
         state[PROFILE_AT] = 1;
         state[NODES_AT] = self.nodes;
@@ -63,9 +76,9 @@ impl Numbers {
         state[OWN_AT] = self.own;
         state[KEY_AT] = self.key;
         state[STRATEGY_AT] = self.strategy;
-        state[SCHEDULE_AT] = self.schedule;
-        state[FIRST_NUMBER_AT] = used.0;
-        state[SECOND_NUMBER_AT] = used.1;
+        state[SCHEDULE_AT] = used.kind;
+        state[FIRST_NUMBER_AT] = used.first;
+        state[SECOND_NUMBER_AT] = used.second;
         state[EPOCH_AT] = self.epoch;
     }
 

@@ -3,7 +3,7 @@ ghost use Rattle.std.specs.Prelude.{◌≡◌, true, ◌≤◌, length};
 ghost use Rattle.state.specs.State.{header_length, state_ok};
 ghost use Rattle.work.specs.HoneyBadger.{has_input, received_proposals};
 
-use state::words::{EPOCH_AT, INPUT_AT, NODES_AT, epoch_length, net_of, place_of};
+use state::words::{EPOCH_AT, INPUT_AT, NODES_AT, epoch_in, net_of};
 
 // Whether input for the current epoch has been provided. An observer has none to provide.
 #[tactic(auto, unfolding(work::specs::HoneyBadger::has_input))]
@@ -16,13 +16,11 @@ pub fn has_input(state: &[u64]) -> bool
 }
 
 // From how many proposers a value of the current epoch is here.
-#[tactic(auto, using(state::proofs::RangeCode::ok_words, crate::proofs::QueryCode::header_of, state::proofs::WordsCode::place_inside, state::proofs::WordsCode::state_small))]
+#[tactic(auto, using(state::proofs::RangeCode::ok_words, crate::proofs::QueryCode::header_of), unfolding(work::specs::HoneyBadger::received_proposals))]
 pub fn received_proposals(state: &[u64]) -> u64
     requires { state_ok state.now ≡ true }
     ensures { result ≡ received_proposals state.now }
 {
-    let n = state[NODES_AT] as usize;
-    let at = place_of(state, state[EPOCH_AT]);
-    let end = at + epoch_length(n);
-    epoch::received::received_proposals(&state[at..end], n) as u64
+    let words = epoch_in(state, state[EPOCH_AT]);
+    epoch::received::received_proposals(words, state[NODES_AT] as usize) as u64
 }

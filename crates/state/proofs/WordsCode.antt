@@ -75,23 +75,22 @@ module _ (w : List ℕ) (h : StateWords w) where
   pub input_kept : (a : ℕ) → StateWords (set w input_at a)
   input_kept a = set_kept input_at a (omega arith) (rw (get_or-set_other w input_at epoch_at a 0 (omega arith)) h.epoch)
 
--- A PART OF THE STATE, as the code lends it: from the place on, l words
-module _ (w : List ℕ) (e at l : ℕ) (a : at ≡ place_of w e) (b : l ≡ epoch_length (nodes w)) where
-  pub part_words : take (at + l - at) (drop at w) ≡ epoch_words w e
+-- A PART OF THE STATE, as the code lends it: from the place on, as many words as an epoch has
+module _ (w : List ℕ) (e at end : ℕ) (a : at ≡ place_of w e) (b : end ≡ place_of w e + epoch_length (nodes w)) where
+  part_long : end - at ≡ epoch_length (nodes w)
+  part_long = omega arith
+
+  pub part_words : take (end - at) (drop at w) ≡ epoch_words w e
   unfolding epoch_words
-  part_words =
-      let z : at + l - at ≡ l = omega arith in
-      rw (z, a, b)
+  part_words = rw (part_long, a)
 
   -- and as it comes back
-  pub part_back : (x : List ℕ) → take at w ++ (x ++ drop (at + l - at) (drop at w)) ≡ with_epoch w e x
+  pub part_back : (x : List ℕ) → take at w ++ (x ++ drop (end - at) (drop at w)) ≡ with_epoch w e x
   unfolding with_epoch
-  part_back x =
-      let z : at + l - at ≡ l = omega arith in
-      rw (z, drop-drop l at w, a, b)
+  part_back x = rw (part_long, drop-drop (epoch_length (nodes w)) at w, a)
 
-  pub part_clear : StateWords w → (x : List ℕ) → x ≡ replicate (length (take (at + l - at) (drop at w))) 0
-      → take at w ++ (x ++ drop (at + l - at) (drop at w)) ≡ without_epoch w e
+  pub part_clear : StateWords w → (x : List ℕ) → x ≡ replicate (length (take (end - at) (drop at w))) 0
+      → take at w ++ (x ++ drop (end - at) (drop at w)) ≡ without_epoch w e
   unfolding without_epoch
   part_clear h x z =
       part_back x ∙ ap (with_epoch w e) (z ∙ ap (λ k. replicate k 0) (ap length part_words ∙ (words_epoch w h e).long))

@@ -5,11 +5,9 @@ ghost use Rattle.state.specs.State.{nodes, ahead, state_length, scratch_of, head
 ghost use Rattle.state.specs.Shape.{StateWords};
 
 use crate::lengths::STATE_LENGTHS;
-use crate::schedule::{schedule_ok, used_numbers};
 use crate::words::{
-    AHEAD_AT, EPOCH_AT, FAULTS_AT, FAULTY_AT, FIRST_NUMBER_AT, HEADER_LENGTH, INPUT_AT, KEY_AT,
-    NODES_AT, OWN_AT, PROFILE_AT, SCHEDULE_AT, SECOND_NUMBER_AT, STRATEGY_AT, VACANT_AT,
-    epoch_length, epochs_at, strategy_of,
+    AHEAD_AT, EPOCH_AT, FAULTS_AT, FAULTY_AT, HEADER_LENGTH, INPUT_AT, KEY_AT, NODES_AT, OWN_AT,
+    PROFILE_AT, STRATEGY_AT, VACANT_AT, epoch_length, epochs_at, schedule_numbers, strategy_of,
 };
 use epochwords::range::epoch_in_range;
 use steps::numbers::{AHEAD_LIMIT, FAULT_LIMIT, LAST_EPOCH, NODE_LIMIT};
@@ -49,22 +47,19 @@ fn header_in_range(state: &[u64]) -> bool
     if (NODE_LIMIT < n) | (NODE_LIMIT < f) | (AHEAD_LIMIT < ahead) {
         return false;
     }
-    let kind = state[SCHEDULE_AT];
-    let a = state[FIRST_NUMBER_AT];
-    let b = state[SECOND_NUMBER_AT];
-    let schedule = schedule_ok(kind, a, b);
-    let used = used_numbers(kind, a, b);
+    let schedule = schedule_numbers(state);
+    let used = schedule.used();
     let vacant = state[VACANT_AT] | state[VACANT_AT + 1] | state[VACANT_AT + 2];
     (state[PROFILE_AT] == 1)
-        & ((1 <= n) & (n <= NODE_LIMIT))
+        & (1..=NODE_LIMIT).contains(&n)
         & (3 * f < n)
         & (ahead <= AHEAD_LIMIT)
         & (state[OWN_AT] <= n)
         & (state[KEY_AT] <= 1)
         & (state[STRATEGY_AT] <= 1)
-        & schedule
-        & (a == used.0)
-        & (b == used.1)
+        & schedule.is_ok()
+        & (schedule.first == used.first)
+        & (schedule.second == used.second)
         & (state[EPOCH_AT] <= LAST_EPOCH + ahead + 1)
         & (state[INPUT_AT] <= 1)
         & (state[FAULTS_AT] <= FAULT_LIMIT)

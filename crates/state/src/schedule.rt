@@ -15,16 +15,61 @@ pub const EVERY_NTH_EPOCH: u64 = 2;
 
 pub const TICK_TOCK: u64 = 3;
 
-// The schedule of this kind with its numbers. A kind above the last reads as the last, so it is no `TryFrom`, and a `From` of three numbers is no plainer.
-#[tactic(auto, unfolding(crate::specs::Schedule::schedule_of))]
-pub fn schedule_of(kind: u64, a: u64, b: u64) -> EncryptionSchedule
-    ensures { result ≡ schedule_of kind a b }
-{
-    match kind {
-        ALWAYS => EncryptionSchedule::Always,
-        NEVER => EncryptionSchedule::Never,
-        EVERY_NTH_EPOCH => EncryptionSchedule::EveryNthEpoch(a),
-        _ => EncryptionSchedule::TickTock(a, b),
+// The numbers of a schedule, as the host gives them and the header keeps them.
+#[derive(Clone, Copy)]
+pub struct ScheduleNumbers {
+    pub kind: u64,
+    pub first: u64,
+    pub second: u64,
+}
+
+impl ScheduleNumbers {
+    // Whether the numbers are as their kind wants them. A sum that is no word is too large.
+    #[tactic(auto, unfolding(crate::specs::Schedule::schedule_ok))]
+    pub fn is_ok(self) -> bool
+        ensures { result ≡ schedule_ok self.kind self.first self.second }
+    {
+        match self.kind {
+            ALWAYS | NEVER => true,
+            EVERY_NTH_EPOCH => (1..=SCHEDULE_LIMIT).contains(&self.first),
+            TICK_TOCK => self
+                .first
+                .checked_add(self.second)
+                .is_some_and(|sum| (1..=SCHEDULE_LIMIT).contains(&sum)),
+            _ => false,
+        }
+    }
+
+    // The numbers as the state holds them: 0 for one that the kind does not use.
+    #[tactic(auto, unfolding(crate::specs::Schedule::used_first, crate::specs::Schedule::used_second))]
+    pub fn used(self) -> ScheduleNumbers
+        ensures { (result.kind ≡ self.kind) × (result.first ≡ used_first self.kind self.first) × (result.second ≡ used_second self.kind self.second) }
+    {
+        let (first, second) = match self.kind {
+            ALWAYS | NEVER => (0, 0),
+            EVERY_NTH_EPOCH => (self.first, 0),
+            _ => (self.first, self.second),
+        };
+        ScheduleNumbers {
+            kind: self.kind,
+            first,
+            second,
+        }
+    }
+}
+
+impl From<ScheduleNumbers> for EncryptionSchedule {
+    ghost from_gives = { λ numbers schedule. schedule ≡ schedule_of numbers.kind numbers.first numbers.second };
+
+    // A kind above the last reads as the last.
+    #[tactic(auto, unfolding(crate::specs::Schedule::schedule_of))]
+    fn from(numbers: ScheduleNumbers) -> EncryptionSchedule {
+        match numbers.kind {
+            ALWAYS => EncryptionSchedule::Always,
+            NEVER => EncryptionSchedule::Never,
+            EVERY_NTH_EPOCH => EncryptionSchedule::EveryNthEpoch(numbers.first),
+            _ => EncryptionSchedule::TickTock(numbers.first, numbers.second),
+        }
     }
 }
 
@@ -41,32 +86,5 @@ impl EncryptionSchedule {
             EncryptionSchedule::EveryNthEpoch(n) => epoch % n == 0,
             EncryptionSchedule::TickTock(on, off) => epoch % (on + off) < on,
         }
-    }
-}
-
-// Whether the numbers of a schedule are as its kind wants them. A sum that is no word is too large.
-#[tactic(auto, unfolding(crate::specs::Schedule::schedule_ok))]
-pub fn schedule_ok(kind: u64, a: u64, b: u64) -> bool
-    ensures { result ≡ schedule_ok kind a b }
-{
-    match kind {
-        ALWAYS | NEVER => true,
-        EVERY_NTH_EPOCH => (1 <= a) & (a <= SCHEDULE_LIMIT),
-        TICK_TOCK => a
-            .checked_add(b)
-            .is_some_and(|sum| (1 <= sum) & (sum <= SCHEDULE_LIMIT)),
-        _ => false,
-    }
-}
-
-// The numbers of a schedule as the state holds them: 0 for one that its kind does not use.
-#[tactic(auto, unfolding(crate::specs::Schedule::used_first, crate::specs::Schedule::used_second))]
-pub fn used_numbers(kind: u64, a: u64, b: u64) -> (u64, u64)
-    ensures { result ≡ (used_first kind a, used_second kind b) }
-{
-    match kind {
-        ALWAYS | NEVER => (0, 0),
-        EVERY_NTH_EPOCH => (a, 0),
-        _ => (a, b),
     }
 }

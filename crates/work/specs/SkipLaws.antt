@@ -1,4 +1,4 @@
--- What the interface says of a skip: the words of the law that proofs/Skips.antt proves.
+-- What a skip leaves: the words of the law that proofs/Skips.antt proves.
 use Rattle.std.specs.Prelude.{ℕ, ◌+◌, ◌≤◌, ◌<◌, ◌≡◌, ◌≢◌, List, length, get_or, replicate}
 use Rattle.subset.specs.Words.{epoch_length}
 use Rattle.state.specs.State.{header_length, nodes, ahead, current_epoch, input, epoch_at, input_at, epoch_words}

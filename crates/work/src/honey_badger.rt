@@ -15,7 +15,7 @@ use epoch::epoch_state::{Input, Setting, SubsetInput, handle, new_epoch};
 use epochwords::batch::EpochRecords;
 use epochwords::words::{STATUS_AT, STATUS_VACANT};
 use state::words::{
-    AHEAD_AT, EPOCH_AT, NODES_AT, encrypted_in, load, net_of, place_of, strategy_of,
+    AHEAD_AT, EPOCH_AT, NODES_AT, encrypted_in, epoch_in, load, net_of, strategy_of,
 };
 use steps::kinds::{AnswerKind, Failure, Stop};
 use steps::reader::Reader;
@@ -97,7 +97,7 @@ fn build(n: usize, words: &mut [u64], reader: &mut Reader) -> Result<(), Stop>
 
 impl HoneyBadger<'_> {
     // Hands out the batch of epoch `number`, if it is ready. The words of the epochs that are not called stand in the state.
-    #[tactic(auto, using(state::proofs::WordsCode::place_inside, state::proofs::WordsCode::state_small, state::proofs::WordsCode::part_words, state::proofs::WordsCode::words_epoch, state::proofs::RangeCode::ok_words, crate::proofs::BatchTurnCode::beside_own, crate::proofs::BatchTurnCode::beside_other))]
+    #[tactic(auto, using(state::proofs::WordsCode::words_epoch, state::proofs::RangeCode::ok_words, crate::proofs::BatchTurnCode::beside_own, crate::proofs::BatchTurnCode::beside_other))]
     fn try_output_at(
         self,
         words: &[u64],
@@ -114,9 +114,7 @@ impl HoneyBadger<'_> {
         if number == self.epoch {
             return try_output_batch(words, n, number, reader, writer);
         }
-        let at = place_of(self.state, number);
-        let end = at + words.len();
-        try_output_batch(&self.state[at..end], n, number, reader, writer)
+        try_output_batch(epoch_in(self.state, number), n, number, reader, writer)
     }
 
     // `try_output_batches`: hands out batches from the current epoch on, as long as the next one is ready. `next` is then the epoch that is
@@ -185,7 +183,7 @@ impl HoneyBadger<'_> {
     }
 
     // A run: the epoch's call on its words, then batches are handed out. The state is only read; `next` is where the run leaves the current
-    // epoch.
+    // epoch. It is lent: where a run fails, the epochs whose batches went out stay behind, so it matters then too, and `?` hands on no value.
     #[tactic(auto, using(state::proofs::WordsCode::header_inside, state::proofs::RangeCode::ok_words))]
     pub fn run(
         self,

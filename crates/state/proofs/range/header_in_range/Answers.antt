@@ -1,6 +1,8 @@
 -- `header_in_range` meets its contract: the definition's tests in its order, after those that keep sums small. Assumes nothing.
-use mathlib.Core.Path.{ap}
-use Rattle.state.specs.State.{header_tests}
+use Rattle.std.proofs.Common.{rules}
+use mathlib.Core.Path.{◌≡◌}
+use Rattle.steps.specs.Table.{within}
+use Rattle.state.specs.State.{header_tests, nodes}
 use Rattle.state.proofs.RangeCode.{header_large, in_order, vacant_zero}
 use Rattle.state.proofs.range.header_in_range.Goals as goal
 
@@ -10,5 +12,7 @@ returns-then-n-f c = header_large c.args.state.now c.if-n-f.true
 pub returns : goal.returns
 unfolding header_tests
 returns c =
-    rw (c.schedule_ok-schedule.ensures, ap (λ u. u.0) c.used_numbers-used.ensures, ap (λ u. u.1) c.used_numbers-used.ensures, vacant_zero c.args.state.now)
+    let (kind, first, second) = c.schedule_numbers-schedule.ensures in
+    let few : c.contains.result ≡ within 1 16 (nodes c.args.state.now) = search rules in
+    rw (few, c.is_ok.ensures, c.used-used.ensures.1, c.used-used.ensures.2, kind, first, second, vacant_zero c.args.state.now)
     (in_order _ _ _ _ _ _ _ _ _ _ _ _ _ _)

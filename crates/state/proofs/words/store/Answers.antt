@@ -3,4 +3,4 @@ use Rattle.state.proofs.WordsCode.{part_back}
 use Rattle.state.proofs.words.store.Goals as goal
 
 pub returns : goal.returns
-returns c = rw c.copy.ensures (part_back c.args.state.now c.args.epoch c.place_of-at.result _ c.place_of-at.ensures c.requires.1 _)
+returns c = rw c.copy.ensures (part_back c.args.state.now c.args.epoch c.part_of-part.result.start c.part_of-part.result.end c.part_of-part.ensures.0 c.part_of-part.ensures.1 _)
