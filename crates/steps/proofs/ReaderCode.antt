@@ -52,6 +52,10 @@ rest_of_chain t i r e = go (on_record t i) refl
     go true o = let h = first_on t i o in rw (chain_on t i o) (ap (λ n. chain t n) (let z : r.next ≡ link t i = cc in z))
     go false o = let h = first_off t i o in absurd (cc)
 
+-- a record that stands at a place is the first of the chain there, and its next is where the rest is
+pub chain_found : (t : List ℕ) (i : ℕ) (r : Record) → first_record (chain t i) ≡ Some r → chain t i ≡ rec_of r ∷ chain t r.next
+chain_found t i r e = rw (rest_of_chain t i r e) (first_of_chain (chain t i) r e)
+
 pub first_shorter : (l : List Rec) (r : Record) → first_record l ≡ Some r → length (drop 1 l) < length l
 first_shorter l r e = let h = ap length (first_of_chain l r e) in omega arith
 

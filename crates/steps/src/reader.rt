@@ -1,6 +1,6 @@
 // The answer reader: the records of the chain, one after the other. The reader is lent, and its place moves past what was read.
 ghost use Rattle.std.specs.Prelude.{◌≡◌, cond, ltb, Some, Ok, drop};
-ghost use Rattle.steps.specs.Answers.{chain, tape, tape_of, first_record, is_end, ask, ask_about, last_index};
+ghost use Rattle.steps.specs.Answers.{chain, tape, tape_at, tape_of, first_record, is_end, ask, ask_about, last_index};
 ghost use Rattle.steps.specs.Steps.{put_all};
 ghost use Rattle.steps.specs.Kinds.{answer_number, message_number, fault_number};
 ghost use Rattle.steps.specs.Written.{out_of, same_table, left_stateless};
@@ -141,16 +141,22 @@ fn record_at(answers: &[u64], place: usize, last: usize) -> Option<Record>
 }
 
 impl<'a> Reader<'a> {
-    // A reader at a table's first answer, whose index word 0 is.
-    pub fn new(answers: &'a [u64]) -> Self
-        ensures { result ≡ tape_of answers.now }
+    // A reader at a place of a table, the index of the record to be read next.
+    pub fn at(answers: &'a [u64], place: usize) -> Self
+        ensures { result ≡ tape_at answers.now place }
     {
-        let place = answers.first().map_or(0, |first| *first as usize);
         let last = last_index(answers);
         Reader {
             answers,
             cursor: Cursor { place, last },
         }
+    }
+
+    // A reader at a table's first answer, whose index word 0 is.
+    pub fn new(answers: &'a [u64]) -> Self
+        ensures { result ≡ tape_of answers.now }
+    {
+        Reader::at(answers, answers.first().map_or(0, |first| *first as usize))
     }
 
     // The index of the record to be read next, 0 at the end.

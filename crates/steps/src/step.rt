@@ -2,7 +2,7 @@
 //
 // A call runs twice. The first run has no table and only counts; the second knows the counts, so that each record goes to its final
 // place at once and the last record of each chain has no next.
-ghost use Rattle.std.specs.Prelude.{◌≡◌, ◌≤◌, length};
+ghost use Rattle.std.specs.Prelude.{◌≡◌, ◌≤◌, length, []};
 ghost use Rattle.steps.specs.Kinds.{message_number, fault_number, output_number};
 ghost use Rattle.steps.specs.Written.{out_of, same_table};
 ghost use Rattle.steps.specs.Steps.{out, chained, put_entry, put_at, advance, next_of, message, fault, output, counting, writing, records, first_of, put_header, Counted};
@@ -124,6 +124,16 @@ impl Step {
 // Three lists with a kind of their own each, as in the Rust's `Step`: one generic method would need a trait of kinds with three impls, to
 // replace three lines.
 impl Writer<'_> {
+    // A writer without a table, that counts.
+    pub fn counting() -> Self
+        ensures { out_of result ≡ out counting [] }
+    {
+        Writer {
+            step: Step::counting(),
+            words: &mut [],
+        }
+    }
+
     pub fn message(&mut self, kind: MessageKind, a: u64, b: u64)
         ensures step { out_of self.new ≡ put_entry (out_of self.old) (message (message_number kind) a b) }
         ensures table { same_table self.old self.new }
