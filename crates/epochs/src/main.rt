@@ -14,7 +14,7 @@
 // after it, as in the input.
 #![tactic(auto)]
 
-ghost use Rattle.std.specs.Prelude.{◌≡◌, ◌≤◌, ◌<◌, length, IfSome};
+ghost use Rattle.std.specs.Prelude.{◌≡◌, ◌≤◌, ◌<◌, length};
 ghost use Rattle.network.specs.Network.{Network};
 ghost use Rattle.subset.specs.Words.{epoch_length};
 ghost use Rattle.epoch.specs.Outcomes.{Comes};
@@ -44,7 +44,7 @@ const MOST_BYTES: u64 = 131_072;
 
 const MOST_NUMBERS: usize = 256;
 
-// In each chain of a step, so that its table has at most 256 words.
+// In each chain of a step.
 const MOST_ENTRIES: usize = 21;
 
 // What a line gives or asks for.
@@ -103,6 +103,13 @@ impl TryFrom<[u64; 6]> for SmallNetwork {
         };
         Ok(SmallNetwork { setting })
     }
+}
+
+// A step that a first run has counted, of at most 21 records in each chain, so that its table has at most 256 words.
+#[derive(Clone, Copy)]
+struct SmallStep {
+    counted: Step,
+    ghost few: { (counted.messages.at ≤ 21) × (counted.faults.at ≤ 21) × (counted.outputs.at ≤ 21) },
 }
 
 // A propose, where there is no message, or a message of a sender for a proposer.
@@ -311,32 +318,33 @@ fn show_words<W: Write>(out: &mut W, words: &[u64; 128]) -> io::Result<()> {
     line_ends(out)
 }
 
-// How many words a counted step takes, if its table can have them.
-fn words_of(counted: Step) -> Option<usize>
-    ensures { IfSome result (λ m. (4 ≤ m) × (m ≤ 256)) }
-{
-    let messages = counted.messages;
-    let faults = counted.faults;
-    let outputs = counted.outputs;
-    if MOST_ENTRIES < messages.at || MOST_ENTRIES < faults.at || MOST_ENTRIES < outputs.at {
-        return None;
+impl SmallStep {
+    // From a step that a first run has counted, if it is small.
+    fn new(counted: Step) -> Option<Self> {
+        if MOST_ENTRIES < counted.messages.at
+            || MOST_ENTRIES < counted.faults.at
+            || MOST_ENTRIES < counted.outputs.at
+        {
+            return None;
+        }
+        Some(SmallStep { counted })
     }
-    Some((1 + messages.at + faults.at + outputs.at) * 4)
-}
 
-// Writes a counted step's header and answers the step that writes its records.
-fn begin(counted: Step, table: &mut [u64], epoch: u64) -> Step
-    requires { 4 ≤ length table.old }
-{
-    let messages = counted.messages;
-    let faults = counted.faults;
-    let outputs = counted.outputs;
-    if MOST_ENTRIES < messages.at || MOST_ENTRIES < faults.at || MOST_ENTRIES < outputs.at {
-        return counted;
+    // How many words it takes.
+    fn length(self) -> usize
+        ensures { (4 ≤ result) × (result ≤ 256) }
+    {
+        self.counted.records() * 4
     }
-    let step = counted.writing();
-    step.header(table, epoch);
-    step
+
+    // Writes its header and answers the step that writes its records.
+    fn begin(self, table: &mut [u64], epoch: u64) -> Step
+        requires { 4 ≤ length table.old }
+    {
+        let step = self.counted.writing();
+        step.header(table, epoch);
+        step
+    }
 }
 
 // The words of a line that has them by index.
@@ -363,13 +371,13 @@ struct Epochs<'a, W> {
 impl<W: Write> Epochs<'_, W> {
     // The second run, which writes what the first has counted.
     fn write(&mut self, call: Call, answers: &[u64], counted: Step) -> io::Result<()> {
-        let Some(length) = words_of(counted) else {
+        let Some(small) = SmallStep::new(counted) else {
             return show(self.out, STEP_TABLE_TOO_SHORT, &[]);
         };
-        let mut table = vec![in self.alloc; 0; length]?;
+        let mut table = vec![in self.alloc; 0; small.length()]?;
         let mut words = self.words;
         let mut writer = Writer {
-            step: begin(counted, &mut table, call.epoch),
+            step: small.begin(&mut table, call.epoch),
             words: &mut table,
         };
         let ran = run_in(&mut words, call, answers, &mut writer);
