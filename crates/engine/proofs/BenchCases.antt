@@ -1,4 +1,4 @@
--- The twelve bench cases of document 01 (case 10 as request g has it), as one table under one statement, `bench_cases`, which is proved by computing the definitions.
+-- The engine's twelve bench cases (docs/EVIDENCE.md, 'Bench cases'; case 10 as docs/changes/g.md has it), as one table under one statement, `bench_cases`, which is proved by computing the definitions.
 -- Where the rows that the document gives would not refuse one of its plausible but wrong programs, there are more. Assumes nothing.
 use Prim.Native.Nat.{ℕ}
 use mathlib.Core.Path.{refl}

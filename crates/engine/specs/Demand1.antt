@@ -1,4 +1,4 @@
--- What document 01 says of every call: the words of the laws that proofs/ proves. First the numbers that it lists for each operation.
+-- What the interface (include/belkjund.h) says of every call: the words of the laws that proofs/ proves. First the numbers that it lists for each operation.
 use Rattle.std.specs.Prelude.{ℕ, ◌≤◌, ◌≡◌, List, [], ◌∷◌, Bool, true, false, cond, length, eqb}
 use Rattle.steps.specs.Numbers.{success, not_a_state, scratch_too_short, answers_malformed, epoch_too_high, message_malformed, answer_not_next, answers_unread, step_table_too_short, unknown_sender, create_subset, propose_bincode, input_subset, handle_subset_message, decryption, multiple_inputs}
 use Rattle.steps.specs.Table.{within}
