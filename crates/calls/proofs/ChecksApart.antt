@@ -1,13 +1,14 @@
 -- THE CHECKS apart from the run: with what follows them they are the calls of Calls.antt; and what a reply of theirs says. Assumes nothing.
+use Rattle.std.specs.Prelude.{Ok, Err}
 use Prim.Native.Nat.{ℕ, ◌≤◌, ◌<◌}
 use native.Mathlib.Omega.{arith}
 use mathlib.Core.Path.{◌≡◌, refl, sym, ap, ◌∙◌}
 use mathlib.Core.List.{List, ◌++◌}
-use mathlib.Core.Bool.{Bool, true, false, cond, not}
+use mathlib.Core.Bool.{Bool, true, false, cond, not, ◌&&◌}
 use lib.Dec.{eqb, leb, ltb}
 use lib.ListN.{length, take, drop, replicate}
 use lib.Seq.{length-take-le}
-use borrow.Author.Tests.{eqb-true, eq-eqb, ne_eqb, lt-leb, le-leb, ltb-true, ltb-false, leb-false}
+use borrow.Author.Tests.{eqb-true, eq-eqb, ne_eqb, lt-leb, le-leb, lt-ltb, le-ltb, ltb-true, ltb-false, leb-false}
 use Rattle.steps.specs.Numbers.{last_epoch}
 use Rattle.steps.specs.Table.{within, shape_ok, table_ok}
 use Rattle.steps.specs.Answers.{Tape, tape_of}
@@ -20,8 +21,8 @@ use Rattle.work.specs.HoneyBadger.{propose, handle_message}
 use Rattle.calls.specs.Calls.{After, after, zeroed, conclude, content_ok, item_ok, content_of, propose_after, propose_call, message_call}
 use Rattle.calls.specs.declared.refusal.Refusal.{Refusal}
 use Rattle.calls.specs.declared.refusal.Refusal.TheVariants.{NumbersOutOfRange, WrongStateLength, NotAState, ScratchTooShort, AnswersMalformed, EpochTooHigh, MessageMalformed, AnswerNotNext, AnswersUnread, StepTableTooShort, UnknownSender, TargetTooHigh}
-use Rattle.calls.specs.Refusals.{refusal_number}
-use Rattle.calls.specs.Checks.{then_check, first_checks, epoch_check, message_check, propose_checks, message_checks, leaves_scratch, after_checks}
+use Rattle.calls.specs.Refusals.{refusal_number, reply_of}
+use Rattle.calls.specs.Checks.{content_told, then_check, first_checks, epoch_check, message_check, propose_checks, message_checks, leaves_scratch, after_checks}
 use Rattle.calls.specs.Shape.{Callable}
 
 -- no refusal has the number of success
@@ -74,18 +75,23 @@ module _ (sender content proposer item : ℕ) (state : List ℕ) where
   message_sender l = rw (le-leb _ _ l)
 
   module _ (node : sender < nodes state) where
-    pub message_content : content_ok (nodes state) content proposer ≡ false → 7 ≡ message_check sender content proposer item state
-    unfolding message_check
-    message_content e = rw (lt-leb _ _ node, e)
+    pub message_proposer : nodes state ≤ proposer → 7 ≡ message_check sender content proposer item state
+    unfolding message_check content_ok
+    message_proposer l = rw (lt-leb _ _ node, le-ltb _ _ l) (go (within 1 3 content))
+      where
+        go : (t : Bool) → ◌≡◌ {A = ℕ} 7 (cond (not (t && false)) 7 (cond (not (item_ok content item)) 7 0))
+        go true = refl
+        go false = refl
 
-    module _ (ok : content_ok (nodes state) content proposer ≡ true) where
-      pub message_item : item_ok content item ≡ false → 7 ≡ message_check sender content proposer item state
-      unfolding message_check
-      message_item e = rw (lt-leb _ _ node, ok, e)
-
-      pub message_none : item_ok content item ≡ true → 0 ≡ message_check sender content proposer item state
-      unfolding message_check
-      message_none e = rw (lt-leb _ _ node, ok, e)
+    -- what the content and its item are read as
+    pub message_read : proposer < nodes state → reply_of (content_told content item) ≡ message_check sender content proposer item state
+    unfolding message_check content_ok
+    message_read l = rw (lt-leb _ _ node, lt-ltb _ _ l) (go (within 1 3 content) (item_ok content item))
+      where
+        go : (t u : Bool) → reply_of (cond (t && u) (Ok (content_of content item)) (Err MessageMalformed)) ≡ cond (not (t && true)) 7 (cond (not u) 7 0)
+        go true true = refl
+        go true false = refl
+        go false u = refl
 
 -- WHAT THE REPLIES SAY
 module _ (state : List ℕ) (scratch : ℕ) (answers : List ℕ) where
@@ -134,17 +140,17 @@ module _ (sender content proposer item : ℕ) (state : List ℕ) where
 
 -- A CALL MAY RUN where its checks answer 0
 module _ (state scratch answers : List ℕ) where
-  pub propose_callable : propose_checks state (length scratch) answers ≡ 0 → Callable Propose state scratch answers
+  pub propose_callable : 0 ≡ propose_checks state (length scratch) answers → Callable Propose state scratch answers
   propose_callable e =
-      let f = (then_both _ _ e).0 in
+      let f = (then_both _ _ (sym e)).0 in
       let p = first_past state (length scratch) answers (ap (leaves_scratch) f) in
       let g = first_passed state (length scratch) answers f in
       record { ok = p.0; good = g; nodes = tt; room = p.1; first = table_first _ _ g }
 
-  pub message_callable : (sender content proposer item : ℕ) (c : MessageContent) → message_checks sender content proposer item state (length scratch) answers ≡ 0
+  pub message_callable : (sender content proposer item : ℕ) (c : MessageContent) → 0 ≡ message_checks sender content proposer item state (length scratch) answers
       → Callable (Message sender proposer c) state scratch answers
   message_callable sender content proposer item c e =
-      let b = then_both _ _ e in
+      let b = then_both _ _ (sym e) in
       let p = first_past state (length scratch) answers (ap (leaves_scratch) b.0) in
       let g = first_passed state (length scratch) answers b.0 in
       record { ok = p.0; good = g; nodes = message_passed sender content proposer item state (then_both _ _ b.1).0; room = p.1; first = table_first _ _ g }
@@ -231,15 +237,6 @@ module _ (state scratch step : List ℕ) (run : After) {call : After} {checks : 
       go : (t : Bool) → leaves_scratch (refusal_number r) ≡ t → after (refusal_number r) state x step ≡ call
       go true t = rw (left t) (ends_first state scratch step run is (refusal_number r) e t)
       go false t = rw (clear t) (ends_turned state scratch step run is (refusal_number r) e t (no_success r))
-
--- SCRATCH: its first words cleared, k of them
-pub cleared : (state scratch ys : List ℕ) (k : ℕ) → k ≡ scratch_of state → k ≤ length scratch → ys ≡ replicate (length (take k scratch)) 0
-    → ys ++ drop k scratch ≡ zeroed state scratch
-unfolding zeroed
-cleared state scratch ys k z h e = rw (e, length-take-le k scratch h, z)
-
-pub after_scratch : (r : ℕ) (state step scratch scratch' : List ℕ) → scratch ≡ scratch' → after r state scratch step ≡ after r state scratch' step
-after_scratch r state step scratch scratch' e = rw e
 
 -- the content that was read is the one that the numbers stand for
 pub same_content : (sender epoch proposer : ℕ) (state : List ℕ) (p : Tape) (scratch step : List ℕ) (c d : MessageContent) → c ≡ d

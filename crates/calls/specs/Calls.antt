@@ -1,4 +1,5 @@
--- What each operation replies, and every word that it leaves (docs/EVIDENCE.md, 'What each operation replies').
+-- What each operation replies, and every word that it leaves (docs/EVIDENCE.md, 'What each operation replies'). Quoted is the owner's text of
+-- the interface.
 use Rattle.std.specs.Prelude.{ℕ, ◌+◌, ◌/◌, List, ◌++◌, Bool, cond, ◌&&◌, not, length, set, drop, replicate, eqb, leb, ltb}
 use Rattle.steps.specs.Numbers.{broadcast_content, agreement_content, share_content, success, not_a_state, scratch_too_short, answers_malformed, epoch_too_high, message_malformed, answers_unread, step_table_too_short, unknown_sender, target_too_high, last_epoch, fault_limit}
 use Rattle.steps.specs.Table.{handle, within, table_ok}

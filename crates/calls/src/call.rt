@@ -1,5 +1,8 @@
 // The way of a call that has passed its checks: a first run that only counts, 8, 9 and 10, a second run that writes if there are records, then the commit.
-// What is left in scratch is cleared by the caller. A reply is the C interface's number: 0, a refusal's or a failure's.
+// What is left in scratch is cleared by the caller.
+//
+// state, scratch, answers and table are no struct: C lends each as a slice of its own, and a struct of them would hold three `&mut` and owe
+// that they are the same ones afterwards.
 ghost use Rattle.std.specs.Prelude.{◌≡◌, length, List, [], ◌∷◌, true, ℕ, ◌≤◌};
 ghost use Rattle.steps.specs.Answers.{tape_of};
 ghost use Rattle.steps.specs.Steps.{fault, out, counting};
@@ -10,13 +13,14 @@ ghost use Rattle.subset.specs.Words.{epoch_length};
 ghost use Rattle.state.specs.State.{nodes, state_ok};
 ghost use Rattle.state.specs.Shape.{StateWords};
 ghost use Rattle.calls.specs.Calls.{after, zeroed, conclude};
+ghost use Rattle.calls.specs.Refusals.{call_reply, failure_of};
 ghost use Rattle.work.specs.Work.{worked};
 ghost use Rattle.work.specs.Shape.{call_work, call_base};
 ghost use Rattle.calls.specs.Shape.{settled, all_read, as_done, Callable, Runnable, counted_by};
 
+use crate::refusal::{End, Refusal};
 use state::words::{NODES_AT, epoch_length};
-use steps::kinds::{FaultKind, Stop};
-use steps::numbers::{ANSWER_NOT_NEXT, ANSWERS_UNREAD, STEP_TABLE_TOO_SHORT, SUCCESS};
+use steps::kinds::{Failure, FaultKind, Stop};
 use steps::reader::Reader;
 use steps::step::{Step, Writer};
 use work::commit::{commit, count_faults};
@@ -34,19 +38,19 @@ fn counter<'a>() -> Writer<'a>
 
 // A call that runs no epoch: an observer's propose, and a message for an epoch that is over. Its step is empty.
 #[tactic(auto, using(crate::proofs::CallCode::none_counted, crate::proofs::CallCode::end_is, crate::proofs::CallCode::still_unread, crate::proofs::CallCode::still_full, crate::proofs::CallCode::rest_done))]
-pub fn rest(epoch: u64, state: &[u64], answers: &[u64], table: &mut [u64]) -> u64
+pub fn rest(epoch: u64, state: &[u64], answers: &[u64], table: &mut [u64]) -> Result<(), End>
     requires { (state_ok state.now ≡ true) × (4 ≤ length answers.now) }
-    ensures { (scratch : List ℕ) → after result state.now scratch table.new
+    ensures { (scratch : List ℕ) → after (call_reply result) state.now scratch table.new
         ≡ conclude (ends (going tt) state.now (tape_of answers.now)) epoch state.now scratch table.old }
 {
     if !Reader::new(answers).is_end() {
-        return ANSWERS_UNREAD;
+        return Err(Refusal::AnswersUnread.into());
     }
     if table.len() < 4 {
-        return STEP_TABLE_TOO_SHORT;
+        return Err(Refusal::StepTableTooShort.into());
     }
     Step::counting().writing().header(table, epoch);
-    SUCCESS
+    Ok(())
 }
 
 // A message for an epoch beyond the look-ahead: fault 1 of its sender.
@@ -57,16 +61,16 @@ pub fn too_early(
     state: &mut [u64],
     answers: &[u64],
     table: &mut [u64],
-) -> u64
+) -> Result<(), End>
     requires { (state_ok state.old ≡ true) × (4 ≤ length answers.now) }
-    ensures { (scratch : List ℕ) → after result state.new scratch table.new
+    ensures { (scratch : List ℕ) → after (call_reply result) state.new scratch table.new
         ≡ conclude (before (fault unexpected_hb_message_epoch sender 0 ∷ []) (ends (going tt) state.old (tape_of answers.now))) epoch state.old scratch table.old }
 {
     if !Reader::new(answers).is_end() {
-        return ANSWERS_UNREAD;
+        return Err(Refusal::AnswersUnread.into());
     }
     if table.len() / 4 < 2 {
-        return STEP_TABLE_TOO_SHORT;
+        return Err(Refusal::StepTableTooShort.into());
     }
     let mut counter = counter();
     counter.fault(FaultKind::UnexpectedHbMessageEpoch, sender, 0);
@@ -75,7 +79,7 @@ pub fn too_early(
     writer.fault(FaultKind::UnexpectedHbMessageEpoch, sender, 0);
     step.header(table, epoch);
     count_faults(state, 1);
-    SUCCESS
+    Ok(())
 }
 
 // A run whose step has no record: it failed, and its step is lost, or it is done and wrote none (`done_empty` in proofs/CallCode.antt).
@@ -87,19 +91,19 @@ fn close(
     epoch: u64,
     call: Call,
     next: u64,
-    number: u64,
+    outcome: Result<(), Failure>,
     table: &mut [u64],
-) -> u64
+) -> Result<(), End>
     requires { StateWords state.old × (length words.now ≡ epoch_length (nodes state.old)) }
-    ensures { (scratch : List ℕ) → after result state.new scratch table.new
-        ≡ settled (ends (failed number) (worked words.now next) all_read) epoch (call_base call state.old) state.old scratch table.old }
+    ensures { (scratch : List ℕ) → after (call_reply result) state.new scratch table.new
+        ≡ settled (ends (failed (failure_of outcome)) (worked words.now next) all_read) epoch (call_base call state.old) state.old scratch table.old }
 {
     if table.len() < 4 {
-        return STEP_TABLE_TOO_SHORT;
+        return Err(Refusal::StepTableTooShort.into());
     }
     commit(state, call, epoch, words, next);
     Step::counting().header(table, epoch);
-    number
+    outcome.map_err(End::Failed)
 }
 
 // A run that is done: the second run writes its step, then the state is written.
@@ -112,13 +116,13 @@ fn finish(
     answers: &[u64],
     counted: Step,
     table: &mut [u64],
-) -> u64
+) -> Result<(), End>
     requires { Runnable call state.old words.old answers.now × (counted ≡ counted_by call epoch state.old answers.now) }
-    ensures { (scratch : List ℕ) → after result state.new scratch table.new
+    ensures { (scratch : List ℕ) → after (call_reply result) state.new scratch table.new
         ≡ settled (as_done (call_work call epoch state.old (tape_of answers.now))) epoch (call_base call state.old) state.old scratch table.old }
 {
     if table.len() / 4 < counted.records() {
-        return STEP_TABLE_TOO_SHORT;
+        return Err(Refusal::StepTableTooShort.into());
     }
     let step = counted.writing();
     let mut next = 0;
@@ -129,7 +133,7 @@ fn finish(
     step.header(table, epoch);
     commit(state, call, epoch, words, next);
     count_faults(state, counted.faults.at);
-    SUCCESS
+    Ok(())
 }
 
 // Both runs and the commit, with the words of the call's epoch. A step without records, as most are, needs no second run.
@@ -141,9 +145,9 @@ fn run_twice(
     call: Call,
     answers: &[u64],
     table: &mut [u64],
-) -> u64
+) -> Result<(), End>
     requires { Runnable call state.old words.old answers.now }
-    ensures { (scratch : List ℕ) → after result state.new scratch table.new
+    ensures { (scratch : List ℕ) → after (call_reply result) state.new scratch table.new
         ≡ settled (call_work call epoch state.old (tape_of answers.now)) epoch (call_base call state.old) state.old scratch table.old }
 {
     let mut next = 0;
@@ -154,10 +158,10 @@ fn run_twice(
     let read = reader.is_end();
     let counted = counter.step;
     match outcome {
-        Err(Stop::NotNext) => ANSWER_NOT_NEXT,
-        _ if !read => ANSWERS_UNREAD,
-        Err(Stop::Failed(error)) => close(state, words, epoch, call, next, u64::from(error), table),
-        Ok(()) if counted.records() == 1 => close(state, words, epoch, call, next, SUCCESS, table),
+        Err(Stop::NotNext) => Err(Refusal::AnswerNotNext.into()),
+        _ if !read => Err(Refusal::AnswersUnread.into()),
+        Err(Stop::Failed(error)) => close(state, words, epoch, call, next, Err(error), table),
+        Ok(()) if counted.records() == 1 => close(state, words, epoch, call, next, Ok(()), table),
         Ok(()) => finish(state, words, epoch, call, answers, counted, table),
     }
 }
@@ -171,9 +175,9 @@ pub fn settle(
     call: Call,
     answers: &[u64],
     table: &mut [u64],
-) -> u64
+) -> Result<(), End>
     requires { Callable call state.old scratch.old answers.now }
-    ensures { after result state.new (zeroed state.old scratch.new) table.new
+    ensures { after (call_reply result) state.new (zeroed state.old scratch.new) table.new
         ≡ settled (call_work call epoch state.old (tape_of answers.now)) epoch (call_base call state.old) state.old (zeroed state.old scratch.old) table.old }
 {
     let size = epoch_length(state[NODES_AT] as usize);

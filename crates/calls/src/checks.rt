@@ -1,8 +1,8 @@
 // The checks of propose and message, in the interface's order (`hb_reply` in include/belkjund.h). They read alone: a call that they turn down has changed nothing.
-ghost use Rattle.std.specs.Prelude.{◌≡◌, ◌≤◌, length};
+ghost use Rattle.std.specs.Prelude.{◌≡◌, ◌≤◌, length, IfOk};
 ghost use Rattle.state.specs.State.{header_length};
-ghost use Rattle.calls.specs.Calls.{content_ok, item_ok, content_of};
-ghost use Rattle.calls.specs.Checks.{first_checks, epoch_check, propose_checks, message_checks};
+ghost use Rattle.calls.specs.Calls.{content_of};
+ghost use Rattle.calls.specs.Checks.{first_checks, epoch_check, propose_checks, message_checks, content_told};
 ghost use Rattle.calls.specs.Refusals.{reply_of};
 
 use crate::refusal::Refusal;
@@ -50,59 +50,59 @@ pub fn propose_checks(state: &[u64], scratch: usize, answers: &[u64]) -> Result<
     epoch_check(state)
 }
 
-// Whether the content is one of the three, and the proposer a node.
-#[tactic(auto, unfolding(crate::specs::Calls::content_ok))]
-fn content_ok(n: u64, content: u64, proposer: u64) -> bool
-    ensures { result ≡ content_ok n content proposer }
-{
-    ((BROADCAST_CONTENT <= content) & (content <= SHARE_CONTENT)) & (proposer < n)
+// The numbers that a host gives of a message.
+#[derive(Clone, Copy)]
+pub struct MessageNumbers {
+    pub sender: u64,
+    pub content: u64,
+    pub proposer: u64,
+    pub item: u64,
 }
 
-// A share is a handle, the other contents have no item.
-#[tactic(auto, unfolding(crate::specs::Calls::item_ok))]
-fn item_ok(content: u64, item: u64) -> bool
-    ensures { result ≡ item_ok content item }
-{
-    if content == SHARE_CONTENT {
-        return is_handle(item);
+// 7 for the content and its item: a share is a handle, the other contents have no item.
+impl TryFrom<MessageNumbers> for MessageContent {
+    type Error = Refusal;
+
+    ghost try_from_gives = { λ numbers told. told ≡ content_told numbers.content numbers.item };
+
+    #[tactic(auto, unfolding(crate::specs::Calls::item_ok, crate::specs::Calls::content_of))]
+    fn try_from(numbers: MessageNumbers) -> Result<Self, Refusal> {
+        match numbers.content {
+            BROADCAST_CONTENT if numbers.item == 0 => Ok(MessageContent::Subset(
+                Content::Broadcast,
+            )),
+            AGREEMENT_CONTENT if numbers.item == 0 => Ok(MessageContent::Subset(
+                Content::Agreement,
+            )),
+            SHARE_CONTENT if is_handle(numbers.item) => Ok(MessageContent::DecryptionShare(
+                numbers.item,
+            )),
+            _ => Err(Refusal::MessageMalformed),
+        }
     }
-    item == 0
 }
 
-// Message: 3, 4, 5, then 11 for the sender, 7 for content and proposer, 7 for the item, 6.
-pub fn message_checks(
-    sender: u64,
-    content: u64,
-    proposer: u64,
-    item: u64,
-    state: &[u64],
-    scratch: usize,
-    answers: &[u64],
-) -> Result<(), Refusal>
-    ensures { reply_of result ≡ message_checks sender content proposer item state.now scratch answers.now }
-{
-    first_checks(state, scratch, answers)?;
-    let n = state[NODES_AT];
-    if n <= sender {
-        return Err(Refusal::UnknownSender);
-    }
-    if !content_ok(n, content, proposer) {
-        return Err(Refusal::MessageMalformed);
-    }
-    if !item_ok(content, item) {
-        return Err(Refusal::MessageMalformed);
-    }
-    epoch_check(state)
-}
-
-// The content that the host's numbers stand for. They have passed their check, so it is no `TryFrom`.
-#[tactic(auto, unfolding(crate::specs::Calls::content_of))]
-pub fn content_of(content: u64, item: u64) -> MessageContent
-    ensures { result ≡ content_of content item }
-{
-    match content {
-        BROADCAST_CONTENT => MessageContent::Subset(Content::Broadcast),
-        AGREEMENT_CONTENT => MessageContent::Subset(Content::Agreement),
-        _ => MessageContent::DecryptionShare(item),
+impl MessageNumbers {
+    // Message: 3, 4, 5, then 11 for the sender, 7 for the proposer, 7 for content and item, 6.
+    pub fn checks(
+        self,
+        state: &[u64],
+        scratch: usize,
+        answers: &[u64],
+    ) -> Result<MessageContent, Refusal>
+        ensures reply { reply_of result ≡ message_checks self.sender self.content self.proposer self.item state.now scratch answers.now }
+        ensures content { IfOk result (λ content. content ≡ content_of self.content self.item) }
+    {
+        first_checks(state, scratch, answers)?;
+        let n = state[NODES_AT];
+        if n <= self.sender {
+            return Err(Refusal::UnknownSender);
+        }
+        if n <= self.proposer {
+            return Err(Refusal::MessageMalformed);
+        }
+        let content = MessageContent::try_from(self)?;
+        epoch_check(state)?;
+        Ok(content)
     }
 }

@@ -4,19 +4,26 @@ ghost use Rattle.steps.specs.Answers.{tape_of};
 ghost use Rattle.state.specs.State.{current_epoch};
 ghost use Rattle.work.specs.HoneyBadger.{propose, handle_message};
 ghost use Rattle.calls.specs.Calls.{after, zeroed, conclude};
+ghost use Rattle.calls.specs.Refusals.{call_reply};
 ghost use Rattle.work.specs.declared.honey_badger.Call.TheVariants.{Propose, Message};
 ghost use Rattle.calls.specs.Shape.{Callable};
 
 use crate::call::{rest, settle, too_early};
+use crate::refusal::End;
 use epoch::MessageContent;
 use state::words::{AHEAD_AT, EPOCH_AT, net_of};
 use work::honey_badger::Call;
 
 // `propose`. An observer's changes nothing.
 #[tactic(auto, using(state::proofs::WordsCode::header_inside, state::proofs::RangeCode::ok_words, crate::proofs::OperationCode::propose_runs))]
-pub fn propose(state: &mut [u64], scratch: &mut [u64], answers: &[u64], table: &mut [u64]) -> u64
+pub fn propose(
+    state: &mut [u64],
+    scratch: &mut [u64],
+    answers: &[u64],
+    table: &mut [u64],
+) -> Result<(), End>
     requires { Callable Propose state.old scratch.old answers.now }
-    ensures { after result state.new (zeroed state.old scratch.new) table.new
+    ensures { after (call_reply result) state.new (zeroed state.old scratch.new) table.new
         ≡ conclude (propose state.old (tape_of answers.now)) (current_epoch state.old) state.old (zeroed state.old scratch.old) table.old }
 {
     let epoch = state[EPOCH_AT];
@@ -38,9 +45,9 @@ pub fn handle_message(
     scratch: &mut [u64],
     answers: &[u64],
     table: &mut [u64],
-) -> u64
+) -> Result<(), End>
     requires { Callable (Message sender proposer content) state.old scratch.old answers.now }
-    ensures { after result state.new (zeroed state.old scratch.new) table.new
+    ensures { after (call_reply result) state.new (zeroed state.old scratch.new) table.new
         ≡ conclude (handle_message sender epoch proposer content state.old (tape_of answers.now)) epoch state.old (zeroed state.old scratch.old) table.old }
 {
     let current = state[EPOCH_AT];

@@ -1,7 +1,10 @@
-// What turns a call down, by the interface's number for it.
+// What turns a call down, and why a call does not end with success, by the interface's numbers.
 ghost use Rattle.std.specs.Prelude.{◌≡◌};
-ghost use Rattle.calls.specs.Refusals.{refusal_number};
+ghost use Rattle.calls.specs.Refusals.{refusal_number, end_number};
 ghost use Rattle.calls.specs.Checks.{leaves_scratch};
+ghost use Rattle.calls.specs.declared.refusal.End.TheVariants.{Refused};
+
+use steps::kinds::Failure;
 
 #[derive(Clone, Copy, Debug, PartialEq, Eq)]
 pub enum Refusal {
@@ -33,5 +36,31 @@ impl From<Refusal> for u64 {
 
     fn from(refusal: Refusal) -> u64 {
         refusal as u64
+    }
+}
+
+// Why a call does not end with success: it was turned down, or it failed as the Rust does.
+#[derive(Clone, Copy, Debug, PartialEq, Eq)]
+pub enum End {
+    Refused(Refusal),
+    Failed(Failure),
+}
+
+impl From<Refusal> for End {
+    ghost from_gives = { λ refusal end. end ≡ Refused refusal };
+
+    fn from(refusal: Refusal) -> End {
+        End::Refused(refusal)
+    }
+}
+
+impl From<End> for u64 {
+    ghost from_gives = { λ end reply. reply ≡ end_number end };
+
+    fn from(end: End) -> u64 {
+        match end {
+            End::Refused(refusal) => u64::from(refusal),
+            End::Failed(failure) => u64::from(failure),
+        }
     }
 }

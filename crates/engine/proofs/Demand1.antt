@@ -1,4 +1,4 @@
--- Every reply is one of those that the interface lists, and a refusal changes nothing.
+-- Every reply is one of those that the interface (include/belkjund.h) lists, and a refusal changes nothing.
 use Prim.Native.Nat.{ℕ, ◌+◌, ◌/◌, ◌≤◌, ◌<◌}
 use native.Mathlib.Omega.{arith}
 use mathlib.Core.Path.{◌≡◌, refl, sym, ap, ◌∙◌}

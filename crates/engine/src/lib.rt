@@ -2,7 +2,8 @@
 // requires anything of what it is lent. crates/engine_c exports the eight functions to C.
 #![tactic(auto)]
 
-ghost use Rattle.std.specs.Prelude.{◌≡◌, ◌≤◌, true, false, length};
+ghost use Rattle.std.specs.Prelude.{◌≡◌, ◌≤◌, ◌++◌, true, false, length, replicate, drop, MatchResult};
+ghost use Rattle.steps.specs.Numbers.{success};
 ghost use Rattle.std.specs.Fn.{FnOnceReturnsAt};
 ghost use Rattle.state.specs.State.{scratch_of, state_ok};
 ghost use Rattle.state.specs.Shape.{StateWords};
@@ -16,7 +17,7 @@ pub mod queries;
 
 use crate::create::Numbers;
 use crate::queries::{has_input, received_proposals};
-use calls::checks::{content_of, message_checks, propose_checks};
+use calls::checks::{MessageNumbers, propose_checks};
 use calls::operations::{handle_message, propose};
 use calls::refusal::Refusal;
 use state::range::{scratch_length, state_ok};
@@ -25,12 +26,12 @@ use steps::numbers::{LAST_EPOCH, SUCCESS};
 use work::commit::skip_to_epoch;
 
 // The interface's number for what a call came to.
-fn reply(outcome: Result<(), Refusal>) -> u64
-    ensures { result ≡ reply_of outcome }
+fn reply<E: Into<u64>>(outcome: Result<(), E>) -> u64
+    ensures { MatchResult outcome (λ _. result ≡ success) (λ end. E.converts end result) }
 {
     match outcome {
         Ok(()) => SUCCESS,
-        Err(refusal) => u64::from(refusal),
+        Err(end) => end.into(),
     }
 }
 
@@ -66,7 +67,16 @@ pub fn hb_create(
     reply(numbers.create(state))
 }
 
+// Clears the words of scratch that a call uses, its first ones.
+fn clear(scratch: &mut [u64], used: usize)
+    requires { used ≤ length scratch.old }
+    ensures { scratch.new ≡ replicate used 0 ++ drop used scratch.old }
+{
+    scratch[..used].fill(0);
+}
+
 // The reply of a call that its checks turned down. Scratch is zero afterwards, unless the reply is 3 or 4.
+#[tactic(auto, unfolding(calls::specs::Calls::zeroed))]
 fn turned_down(refusal: Refusal, state: &[u64], scratch: &mut [u64]) -> u64
     requires { leaves_scratch (refusal_number refusal) ≡ false → StateWords state.now × (scratch_of state.now ≤ length scratch.old) }
     ensures reply { result ≡ refusal_number refusal }
@@ -76,8 +86,7 @@ fn turned_down(refusal: Refusal, state: &[u64], scratch: &mut [u64]) -> u64
     if refusal.leaves_scratch() {
         return u64::from(refusal);
     }
-    let length = scratch_length(state);
-    scratch[..length].fill(0);
+    clear(scratch, scratch_length(state));
     u64::from(refusal)
 }
 
@@ -89,10 +98,10 @@ pub fn hb_propose(state: &mut [u64], scratch: &mut [u64], answers: &[u64], step:
     if let Err(refusal) = propose_checks(state, scratch.len(), answers) {
         return turned_down(refusal, state, scratch);
     }
-    let length = scratch_length(state);
-    let reply = propose(state, scratch, answers, step);
-    scratch[..length].fill(0);
-    reply
+    let used = scratch_length(state);
+    let ended = propose(state, scratch, answers, step);
+    clear(scratch, used);
+    reply(ended)
 }
 
 // Handles a message from a node. Scratch is zero afterwards, unless the reply is 3 or 4.
@@ -110,23 +119,22 @@ pub fn hb_message(
     ensures { after result state.new scratch.new step.new
         ≡ message_call state.old scratch.old answers.now step.old sender epoch content proposer item }
 {
-    let checked = message_checks(
+    let numbers = MessageNumbers {
         sender,
         content,
         proposer,
         item,
-        state,
-        scratch.len(),
-        answers,
+    };
+    let content = match numbers.checks(state, scratch.len(), answers) {
+        Ok(content) => content,
+        Err(refusal) => return turned_down(refusal, state, scratch),
+    };
+    let used = scratch_length(state);
+    let ended = handle_message(
+        sender, epoch, proposer, content, state, scratch, answers, step,
     );
-    if let Err(refusal) = checked {
-        return turned_down(refusal, state, scratch);
-    }
-    let length = scratch_length(state);
-    let c = content_of(content, item);
-    let reply = handle_message(sender, epoch, proposer, c, state, scratch, answers, step);
-    scratch[..length].fill(0);
-    reply
+    clear(scratch, used);
+    reply(ended)
 }
 
 // Skips to a later epoch: reply 0, 3 for words that are no state, 12 for a target above the last epoch.
@@ -166,28 +174,28 @@ fn query<F: FnOnce(&[u64]) -> u64>(state: &[u64], res: &mut u64, ask: F) -> Resu
 }
 
 // The queries: reply 0, or 3 with the result untouched.
-#[tactic(auto, using(crate::proofs::QueryCode::header_of), unfolding(calls::specs::Calls::current_epoch_result))]
+#[tactic(auto, using(crate::proofs::QueryCode::header_of, crate::proofs::QueryCode::replied), unfolding(calls::specs::Calls::current_epoch_result))]
 pub fn hb_current_epoch(state: &[u64], res: &mut u64) -> u64
     ensures { (result ≡ query_reply state.now) × (res.new ≡ current_epoch_result state.now res.old) }
 {
     reply(query(state, res, |state| state[EPOCH_AT]))
 }
 
-#[tactic(auto, using(crate::proofs::QueryCode::header_of), unfolding(calls::specs::Calls::has_input_result))]
+#[tactic(auto, using(crate::proofs::QueryCode::header_of, crate::proofs::QueryCode::replied), unfolding(calls::specs::Calls::has_input_result))]
 pub fn hb_has_input(state: &[u64], res: &mut u64) -> u64
     ensures { (result ≡ query_reply state.now) × (res.new ≡ has_input_result state.now res.old) }
 {
     reply(query(state, res, |state| u64::from(has_input(state))))
 }
 
-#[tactic(auto, using(crate::proofs::QueryCode::header_of), unfolding(calls::specs::Calls::received_proposals_result))]
+#[tactic(auto, using(crate::proofs::QueryCode::header_of, crate::proofs::QueryCode::replied), unfolding(calls::specs::Calls::received_proposals_result))]
 pub fn hb_received_proposals(state: &[u64], res: &mut u64) -> u64
     ensures { (result ≡ query_reply state.now) × (res.new ≡ received_proposals_result state.now res.old) }
 {
-    reply(query(state, res, |state| received_proposals(state)))
+    reply(query(state, res, received_proposals))
 }
 
-#[tactic(auto, using(crate::proofs::QueryCode::header_of), unfolding(calls::specs::Calls::fault_count_result))]
+#[tactic(auto, using(crate::proofs::QueryCode::header_of, crate::proofs::QueryCode::replied), unfolding(calls::specs::Calls::fault_count_result))]
 pub fn hb_fault_count(state: &[u64], res: &mut u64) -> u64
     ensures { (result ≡ query_reply state.now) × (res.new ≡ fault_count_result state.now res.old) }
 {

@@ -2,12 +2,13 @@
 use mathlib.Core.Path.{refl, sym, ap, ◌∙◌}
 use native.Mathlib.Omega.{arith}
 use lib.ListN.{length}
-use lib.Seq.{length-take-le}
 use Rattle.state.proofs.RangeCode.{ok_words}
 use Rattle.calls.specs.Checks.{leaves_scratch}
+use Rattle.calls.specs.Calls.{zeroed}
 use Rattle.calls.specs.Shape.{Callable}
 use Rattle.work.specs.declared.honey_badger.Call.TheVariants.{Propose}
-use Rattle.calls.proofs.ChecksApart.{then_past, first_past, propose_callable, propose_checked, ends_refused, ends_run, cleared, after_scratch}
+use Rattle.calls.proofs.ChecksApart.{then_past, first_past, propose_callable, propose_checked, ends_refused, ends_run}
+use Rattle.engine.proofs.QueryCode.{call_replied}
 use Rattle.engine.proofs.hb_propose.Goals as goal
 
 pub turned_down-requires : goal.turned_down-requires
@@ -21,25 +22,19 @@ returns-in-Err c =
     (ends_refused c.args.state.now c.args.scratch.now c.args.step.now _ (propose_checked c.args.state.now c.args.scratch.now c.args.answers.now c.args.step.now) c.in-Err.refusal c.in-Err.ensures
     _ c.turned_down.ensures.left c.turned_down.ensures.cleared)
 
-pub scratch_length-length-requires : goal.scratch_length-length-requires
-scratch_length-length-requires c = ok_words c.args.state.now (propose_callable c.args.state.now c.args.scratch.now c.args.answers.now (sym c.in_default.ensures)).ok
+pub scratch_length-used-requires : goal.scratch_length-used-requires
+scratch_length-used-requires c = ok_words c.args.state.now (propose_callable c.args.state.now c.args.scratch.now c.args.answers.now c.in_default.ensures).ok
 
-pub propose-reply-requires : goal.propose-reply-requires
-propose-reply-requires c = propose_callable c.args.state.now c.args.scratch.now c.args.answers.now (sym c.in_default.ensures)
+pub propose-ended-requires : goal.propose-ended-requires
+propose-ended-requires c = propose_callable c.args.state.now c.args.scratch.now c.args.answers.now c.in_default.ensures
 
-pub slice_bounds-fill-end : goal.slice_bounds-fill-end
-slice_bounds-fill-end c =
-    let k : Callable Propose c.args.state.now c.args.scratch.now c.args.answers.now = propose_callable _ _ _ (sym c.in_default.ensures) in
-    omega (arith, c.scratch_length-length.ensures, k.room, c.propose-reply.auto)
-
-pub slice_bounds-fill-end-2 : goal.slice_bounds-fill-end-2
-slice_bounds-fill-end-2 c =
-    let k : Callable Propose c.args.state.now c.args.scratch.now c.args.answers.now = propose_callable _ _ _ (sym c.in_default.ensures) in
-    sym (length-take-le c.scratch_length-length.result c.propose-reply.new.scratch (omega (arith, c.scratch_length-length.ensures, k.room, c.propose-reply.auto)))
+pub clear-requires : goal.clear-requires
+clear-requires c =
+    let k : Callable Propose c.args.state.now c.args.scratch.now c.args.answers.now = propose_callable c.args.state.now c.args.scratch.now c.args.answers.now c.in_default.ensures in
+    omega (arith, c.scratch_length-used.ensures, k.room, c.propose-ended.auto)
 
 pub returns : goal.returns
+unfolding zeroed
 returns c =
-    let k : Callable Propose c.args.state.now c.args.scratch.now c.args.answers.now = propose_callable _ _ _ (sym c.in_default.ensures) in
-    after_scratch _ _ _ _ _ (cleared c.args.state.now c.propose-reply.new.scratch _ c.scratch_length-length.result c.scratch_length-length.ensures (omega (arith, c.scratch_length-length.ensures, k.room, c.propose-reply.auto)) (c.fill.ensures.after (λ y e. e)))
-    ∙ c.propose-reply.ensures
-    ∙ ends_run c.args.state.now c.args.scratch.now c.args.step.now _ (propose_checked c.args.state.now c.args.scratch.now c.args.answers.now c.args.step.now) _ c.in_default.ensures refl
+    rw (call_replied _ _ c.reply.ensures, c.clear.ensures, c.scratch_length-used.ensures) (c.propose-ended.ensures
+    ∙ ends_run c.args.state.now c.args.scratch.now c.args.step.now _ (propose_checked c.args.state.now c.args.scratch.now c.args.answers.now c.args.step.now) _ c.in_default.ensures refl)
