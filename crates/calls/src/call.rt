@@ -26,16 +26,6 @@ use steps::step::{Step, Writer};
 use work::commit::{commit, count_faults};
 use work::honey_badger::{Call, HoneyBadger};
 
-// A writer without a table, that counts.
-fn counter<'a>() -> Writer<'a>
-    ensures { out_of result ≡ out counting [] }
-{
-    Writer {
-        step: Step::counting(),
-        words: &mut [],
-    }
-}
-
 // A call that runs no epoch: an observer's propose, and a message for an epoch that is over. Its step is empty.
 #[tactic(auto, using(crate::proofs::CallCode::none_counted, crate::proofs::CallCode::end_is, crate::proofs::CallCode::still_unread, crate::proofs::CallCode::still_full, crate::proofs::CallCode::rest_done))]
 pub fn rest(epoch: u64, state: &[u64], answers: &[u64], table: &mut [u64]) -> Result<(), End>
@@ -72,7 +62,7 @@ pub fn too_early(
     if table.len() / 4 < 2 {
         return Err(Refusal::StepTableTooShort.into());
     }
-    let mut counter = counter();
+    let mut counter = Writer::counting();
     counter.fault(FaultKind::UnexpectedHbMessageEpoch, sender, 0);
     let step = counter.step.writing();
     let mut writer = Writer { step, words: table };
@@ -152,7 +142,7 @@ fn run_twice(
 {
     let mut next = 0;
     let mut reader = Reader::new(answers);
-    let mut counter = counter();
+    let mut counter = Writer::counting();
     let engine = HoneyBadger { state, epoch, call };
     let outcome = engine.run(words, &mut next, &mut reader, &mut counter);
     let read = reader.is_end();

@@ -99,15 +99,15 @@ impl HoneyBadger<'_> {
     // Hands out the batch of epoch `number`, if it is ready. The words of the epochs that are not called stand in the state.
     #[tactic(auto, using(state::proofs::WordsCode::words_epoch, state::proofs::RangeCode::ok_words, crate::proofs::BatchTurnCode::beside_own, crate::proofs::BatchTurnCode::beside_other))]
     fn try_output_at(
-        self,
+        &self,
         words: &[u64],
         number: u64,
         reader: &mut Reader,
         writer: &mut Writer,
     ) -> Result<bool, Stop>
-        requires { length words.now ≡ epoch_length (nodes self.state.now) }
-        ensures run { left (beside self.entry.state.now self.entry.epoch words.now number) result reader.new writer.new
-            ≡ leaves (out_of writer.old) (try_output_batch (nodes self.entry.state.now) number (beside self.entry.state.now self.entry.epoch words.now number) reader.old) }
+        requires { length words.now ≡ epoch_length (nodes self.now.state.now) }
+        ensures run { left (beside self.now.state.now self.now.epoch words.now number) result reader.new writer.new
+            ≡ leaves (out_of writer.old) (try_output_batch (nodes self.now.state.now) number (beside self.now.state.now self.now.epoch words.now number) reader.old) }
         ensures table { same_table writer.old writer.new }
     {
         let n = self.state[NODES_AT] as usize;
@@ -121,15 +121,15 @@ impl HoneyBadger<'_> {
     // next.
     #[tactic(auto, using(state::proofs::WordsCode::header_inside, state::proofs::RangeCode::ok_words, crate::proofs::BatchTurnCode::tried_over, crate::proofs::BatchTurnCode::tried_ends, crate::proofs::BatchTurnCode::none_left), unfolding(steps::specs::Steps::put_all))]
     fn try_output_batches(
-        self,
+        &self,
         words: &[u64],
         next: &mut u64,
         reader: &mut Reader,
         writer: &mut Writer,
     ) -> Result<(), Stop>
-        requires { length words.now ≡ epoch_length (nodes self.state.now) }
+        requires { length words.now ≡ epoch_length (nodes self.now.state.now) }
         ensures run { left next.new result reader.new writer.new
-            ≡ leaves (out_of writer.old) (batches_from (nodes self.entry.state.now) (beside self.entry.state.now self.entry.epoch words.now) (ahead self.entry.state.now + 1) (current_epoch self.entry.state.now) reader.old) }
+            ≡ leaves (out_of writer.old) (batches_from (nodes self.now.state.now) (beside self.now.state.now self.now.epoch words.now) (ahead self.now.state.now + 1) (current_epoch self.now.state.now) reader.old) }
         ensures table { same_table writer.old writer.new }
     {
         let current = self.state[EPOCH_AT];
@@ -147,13 +147,13 @@ impl HoneyBadger<'_> {
     // The epoch's own call.
     #[tactic(auto, using(state::proofs::WordsCode::header_inside, state::proofs::RangeCode::ok_words, state::proofs::RangeCode::ok_schedule, crate::proofs::RunCode::net_network, crate::proofs::RunCode::net_nodes, crate::proofs::RunCode::call_comes, crate::proofs::RunCode::body_input))]
     fn call_body(
-        self,
+        &self,
         words: &mut [u64],
         reader: &mut Reader,
         writer: &mut Writer,
     ) -> Result<(), Stop>
-        requires { EpochWords (nodes self.state.now) words.old × Listed (nodes self.state.now) words.old }
-        ensures run { left words.new result reader.new writer.new ≡ leaves (out_of writer.old) (body_of self.entry.call self.entry.state.now self.entry.epoch words.old reader.old) }
+        requires { EpochWords (nodes self.now.state.now) words.old × Listed (nodes self.now.state.now) words.old }
+        ensures run { left words.new result reader.new writer.new ≡ leaves (out_of writer.old) (body_of self.now.call self.now.state.now self.now.epoch words.old reader.old) }
         ensures table { same_table writer.old writer.new }
     {
         let setting = Setting {
@@ -167,14 +167,14 @@ impl HoneyBadger<'_> {
     // The epoch's words are built where there are none, then its own call runs.
     #[tactic(auto, using(state::proofs::WordsCode::header_inside, state::proofs::RangeCode::ok_words))]
     fn call_epoch(
-        self,
+        &self,
         words: &mut [u64],
         reader: &mut Reader,
         writer: &mut Writer,
     ) -> Result<(), Stop>
-        requires { length words.old ≡ epoch_length (nodes self.state.now) }
+        requires { length words.old ≡ epoch_length (nodes self.now.state.now) }
         ensures run { left words.new result reader.new writer.new
-            ≡ leaves (out_of writer.old) (epoch_call (nodes self.entry.state.now) (body_of self.entry.call self.entry.state.now self.entry.epoch) (epoch_words self.entry.state.now self.entry.epoch) reader.old) }
+            ≡ leaves (out_of writer.old) (epoch_call (nodes self.now.state.now) (body_of self.now.call self.now.state.now self.now.epoch) (epoch_words self.now.state.now self.now.epoch) reader.old) }
         ensures table { same_table writer.old writer.new }
     {
         load(self.state, self.epoch, words);
@@ -186,14 +186,14 @@ impl HoneyBadger<'_> {
     // epoch. It is lent: where a run fails, the epochs whose batches went out stay behind, so it matters then too, and `?` hands on no value.
     #[tactic(auto, using(state::proofs::WordsCode::header_inside, state::proofs::RangeCode::ok_words))]
     pub fn run(
-        self,
+        &self,
         words: &mut [u64],
         next: &mut u64,
         reader: &mut Reader,
         writer: &mut Writer,
     ) -> Result<(), Stop>
-        requires { length words.old ≡ epoch_length (nodes self.state.now) }
-        ensures run { left (worked words.new next.new) result reader.new writer.new ≡ leaves (out_of writer.old) (call_work self.entry.call self.entry.epoch self.entry.state.now reader.old) }
+        requires { length words.old ≡ epoch_length (nodes self.now.state.now) }
+        ensures run { left (worked words.new next.new) result reader.new writer.new ≡ leaves (out_of writer.old) (call_work self.now.call self.now.epoch self.now.state.now reader.old) }
         ensures table { same_table writer.old writer.new }
     {
         *next = self.state[EPOCH_AT];
