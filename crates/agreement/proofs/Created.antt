@@ -9,10 +9,10 @@ use lib.Dec.{eqb, leb}
 use lib.ListN.{length, get_or, drop, replicate, length-replicate, get_or-eq_default}
 use lib.Seq.{get_or-append-add, get_or-take, get_or-drop}
 use borrow.Author.Tests.{eqb-true, eq-eqb, leb-true, leb-false, le-leb, lt-leb}
+use Rattle.std.proofs.lemmas.Bool.{and_parts, and_from}
 use Rattle.steps.specs.Numbers.{last_epoch}
 use Rattle.steps.specs.Table.{within}
-use Rattle.steps.proofs.ChainLaws.{and-true}
-use Rattle.steps.proofs.Ranges.{and_both, zeros_at}
+use Rattle.steps.proofs.Ranges.{zeros_at}
 use Rattle.subset.specs.Words.{epoch_length, count_at}
 use Rattle.subset.proofs.Ranges.{limit_some}
 use Rattle.epochwords.proofs.LimitsOfWords.{all_every}
@@ -118,7 +118,7 @@ module _ (c : Numbers) (h : numbers_ok c ≡ true) where
 
   some : 1 ≤ c.nodes
   unfolding number_tests
-  some = leb-true 1 c.nodes (and-true (leb 1 c.nodes) (leb c.nodes 16) (test 0)).0
+  some = leb-true 1 c.nodes (and_parts (leb 1 c.nodes) (leb c.nodes 16) (test 0)).0
 
   created_header_lem : header_in_range (created c) ≡ true
   unfolding number_tests header_tests all_hold created
@@ -136,7 +136,7 @@ module _ (c : Numbers) (h : numbers_ok c ≡ true) where
         le-leb c.epoch (last_epoch + c.ahead + 1) (omega (arith, leb-true c.epoch last_epoch (test 6))),
         zeros_at (state_length c.nodes c.ahead - input_at) 0,
         zeros_at (state_length c.nodes c.ahead - input_at) 1,
-      ) (and_both _ _ (all_every (λ x. eqb x 0) (header_length - vacant_at) vacant_at (created c) (λ k l. eq-eqb _ _ (created_zeros c (vacant_at + k) (omega arith)))) refl)
+      ) (and_from _ _ (all_every (λ x. eqb x 0) (header_length - vacant_at) vacant_at (created c) (λ k l. eq-eqb _ _ (created_zeros c (vacant_at + k) (omega arith)))) refl)
 
   pub created_ok : state_ok (created c) ≡ true
   unfolding created

@@ -9,10 +9,10 @@ use Rattle.std.specs.Prelude.{Option, None}
 use lib.Dec.{leb}
 use lib.ListN.{get_or}
 use borrow.Author.Tests.{eqb-true, le-leb}
+use Rattle.std.proofs.lemmas.Bool.{and_parts}
 use Rattle.network.specs.declared.network_info.NetworkInfo.{NetworkInfo}
 use Rattle.network.specs.Network.{Network, num_correct}
 use Rattle.steps.specs.Taken.{or_else, is_there, is_true, ones_from}
-use Rattle.steps.proofs.ChainLaws.{and-true}
 use Rattle.subset.specs.Words.{status_at}
 use Rattle.subset.specs.Rule.{settled_from, is_over}
 use Rattle.subset.proofs.Rule.{new_over}
@@ -194,7 +194,7 @@ eights_ok m s e p l = let k = known m s in rw (← k.schedule) (k.eights e p l)
 
 over_settled : (net : NetworkInfo) (v d : ℕ → Option ℕ) → is_over net v d ≡ true → settled_from v d net.num_nodes 0 ≡ true
 unfolding is_over
-over_settled net v d o = (and-true (settled_from v d net.num_nodes 0) (leb (num_correct net) (ones_from d net.num_nodes 0)) o).0
+over_settled net v d o = (and_parts (settled_from v d net.num_nodes 0) (leb (num_correct net) (ones_from d net.num_nodes 0)) o).0
 
 -- of an epoch that is over those decided 1 are handled
 over_handled : (net : NetworkInfo) (strategy : SubsetHandlingStrategy) (v d : ℕ → Option ℕ) → is_over net v d ≡ true → (q : ℕ) → q < net.num_nodes → is_handled net strategy v d q ≡ is_true (d q)

@@ -9,6 +9,7 @@ use Rattle.std.specs.Prelude.{Option, None}
 use lib.Dec.{eqb, ltb}
 use lib.ListN.{length, set}
 use borrow.Author.Tests.{eqb-true, eqb-false, ltb-true}
+use Rattle.std.proofs.lemmas.Bool.{and_parts}
 use Rattle.network.specs.declared.network_info.NetworkInfo.{NetworkInfo}
 use Rattle.network.specs.Network.{Network}
 use Rattle.steps.specs.Answers.{Rec, Tape, tape_of}
@@ -16,7 +17,6 @@ use Rattle.steps.specs.Steps.{Entry}
 use Rattle.steps.specs.Runs.{Verdict, going, refused, failed, Run, inside}
 use Rattle.steps.specs.Taken.{or_else, first_taken, of_value, of_decision}
 use Rattle.steps.specs.Times.{times_asked}
-use Rattle.steps.proofs.ChainLaws.{and-true}
 use Rattle.steps.proofs.TakenFromChain.{or_else_none, Good, table_good}
 use Rattle.steps.proofs.ReadByKinds.{Past, Others, past_first}
 use Rattle.steps.proofs.ReadsFirstPart.{reading_stateless}
@@ -252,7 +252,7 @@ module _ (w₀ : List ℕ) (network : Network (net_of w₀)) where
   run_eighted (c ∷ cs) w cur vs ds ts h n = go (eqb (turn_of w c).reply 0) refl (run_eighted cs)
     where
       parts : (ltb (turn_of w c).reply 20 ≡ true) × (none_fails (turns (state_after w c) cs) ≡ true)
-      parts = and-true (ltb (turn_of w c).reply 20) (none_fails (turns (state_after w c) cs)) n
+      parts = and_parts (ltb (turn_of w c).reply 20) (none_fails (turns (state_after w c) cs)) n
 
       go : (t : Bool) → eqb (turn_of w c).reply 0 ≡ t → Onward cs
           → Eighted vs ds (cond t (events_of cur (turn_of w c).call (turn_of w c).step) [] ++ history (cond t (current_after cur (turn_of w c).call (turn_of w c).step) cur) (turns (state_after w c) cs))

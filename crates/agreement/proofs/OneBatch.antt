@@ -18,6 +18,7 @@ use Rattle.subset.specs.Words.{record_length}
 use Rattle.epochwords.specs.Words.{plaintext_at}
 use Rattle.epochwords.specs.Batch.{is_read, read_at, read_from, entries_from, output_batch_in, output_batch}
 use Rattle.epoch.proofs.Interface.{fives_among}
+use Rattle.epoch.proofs.QuietRuns.{fives_append}
 use Rattle.agreement.specs.History.{names_from, names_of, unreadable_in}
 use Rattle.steps.specs.Batches.{BatchEntry as Shown}
 
@@ -56,11 +57,6 @@ entries_of text (r ∷ rs) = cond (eqb r.a 0) [] (record { proposer = r.b; plain
 unfoldable pub items_of : List Shown → List Item
 items_of [] = []
 items_of (x ∷ xs) = item 2 x.proposer x.plaintext ∷ items_of xs
-
-pub fives_append : (l m : List Item) → fives_among (l ++ m) ≡ fives_among l ++ fives_among m
-unfolding fives_among
-fives_append [] m = refl
-fives_append (x ∷ l) m = rw (fives_append l m) (sym (append_assoc (cond (eqb x.kind 5) (x.a ∷ []) []) (fives_among l) (fives_among m)))
 
 -- READING. The plaintexts of the epoch's words
 abbrev pub text_in : ℕ → List ℕ → ℕ → ℕ

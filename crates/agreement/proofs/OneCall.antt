@@ -9,6 +9,8 @@ use Rattle.std.specs.Prelude.{Option, None}
 use lib.Dec.{eqb, leb, ltb}
 use lib.ListN.{length, get_or, set, length-set, length-replicate}
 use borrow.Author.Tests.{eqb-true, eq-eqb, ltb-true, ltb-false, le-leb, lt-leb}
+use Rattle.std.proofs.lemmas.Bool.{and_parts}
+use Rattle.std.proofs.Math.Bool.{and-false, and-true}
 use Rattle.network.specs.declared.network_info.NetworkInfo.{NetworkInfo}
 use Rattle.network.specs.Network.{Network, is_validator}
 use Rattle.steps.specs.Answers.{Rec, Tape}
@@ -16,12 +18,11 @@ use Rattle.steps.specs.Table.{within}
 use Rattle.steps.specs.Steps.{Entry, fault, item, faults, outputs}
 use Rattle.steps.specs.Runs.{going, Run, ends, onward, inside}
 use Rattle.steps.specs.Taken.{or_else, is_there, is_true, first_taken, of_value, of_decision, first_decrypted, thirteens_in}
-use Rattle.steps.proofs.ChainLaws.{and-true}
 use Rattle.steps.proofs.TakenFromChain.{Good}
 use Rattle.steps.proofs.GivenWithLog.{Gives, gives_own, gives_map, gives_cond, gives_ask, gives_onward, gives_inside, Neither, neither, neither_then, neither_1, thirteens_1, good_tail, outputs_append, faults_append}
 use Rattle.subset.specs.Words.{record_length, epoch_length, status_at}
 use Rattle.steps.proofs.AfterRun.{Afterwards}
-use Rattle.subset.proofs.VotesAsked.{and_no, and_yes, untold_same, untold_neither, Voted, voted_still, voted_after, voted_before}
+use Rattle.subset.proofs.VotesAsked.{untold_same, untold_neither, Voted, voted_still, voted_after, voted_before}
 use Rattle.epochwords.specs.declared.SubsetHandlingStrategy.{SubsetHandlingStrategy}
 use Rattle.epoch.specs.declared.MessageContent.{MessageContent}
 use Rattle.epochwords.specs.Words.{is_vacant, is_complete}
@@ -29,12 +30,13 @@ use Rattle.epoch.specs.Epoch.{new_epoch, propose as propose_in_epoch, handle_mes
 use Rattle.epochwords.specs.Batch.{is_ready, decrypted_from, is_ready_in, is_read, output_batch}
 use Rattle.epoch.proofs.Interface.{nothing, fives_among, Quiet, share_of, CallTold, Ready, EpochLaws}
 use Rattle.epoch.proofs.Occupied.{Alive, alive_new, alive_propose, alive_message}
+use Rattle.epoch.proofs.QuietRuns.{fives_append}
 use Rattle.state.specs.State.{nodes, faulty, ahead, current_epoch, input_at, net_of, strategy_of, encrypted_in, epoch_words, with_epoch}
 use Rattle.work.specs.HoneyBadger.{update_epoch, epoch_state_mut, in_epoch, try_output_batches, output_batches, propose, handle_message}
 use Rattle.steps.specs.Batches.{Batch}
 use Rattle.agreement.specs.History.{unreadable_in}
 use Rattle.state.proofs.Window.{words_long, with_same}
-use Rattle.agreement.proofs.OneBatch.{entries_of, items_of, text_in, fives_append, Put, batch_put}
+use Rattle.agreement.proofs.OneBatch.{entries_of, items_of, text_in, Put, batch_put}
 use Rattle.agreement.proofs.StepAsRead.{entries_among, batches_among, batch_first}
 use Rattle.agreement.proofs.BatchesDealt.{Tk, Hand, Dealt, no_batch, one_batch, names_same}
 use Rattle.agreement.proofs.Invariant.{Slot, vacant, lives, Sim, net_same, strategy_same, encrypted_same, sim_set, sim_with, sim_update}
@@ -43,7 +45,7 @@ use Rattle.agreement.proofs.Invariant.{Slot, vacant, lives, Sim, net_same, strat
 vacant_waits : (n : ℕ) (x : List ℕ) → is_vacant x ≡ true → is_ready n x ≡ true → ⊥
 unfolding is_ready_in
 vacant_waits n x e r =
-    let c : get_or x status_at 0 ≡ 2 = eqb-true (get_or x status_at 0) 2 (and-true (is_complete x) (decrypted_from (record_length n) n 0 x) r).0 in
+    let c : get_or x status_at 0 ≡ 2 = eqb-true (get_or x status_at 0) 2 (and_parts (is_complete x) (decrypted_from (record_length n) n 0 x) r).0 in
     omega (arith, eqb-true (get_or x status_at 0) 0 e)
 
 new_long : (n : ℕ) → length (new_epoch n) ≡ epoch_length n
@@ -343,13 +345,13 @@ module _ (Holds : NetworkInfo → SubsetHandlingStrategy → Bool → List ℕ �
     comes_at cur = not (is_there (share_of proposer content)) && within cur (cur + ahead w₀) e
 
     comes_late : (cur : ℕ) → e < cur → comes_at cur ≡ false
-    comes_late cur l = rw (lt-leb cur e l) (and_no (not (is_there (share_of proposer content))))
+    comes_late cur l = rw (lt-leb cur e l) (and-false (not (is_there (share_of proposer content))))
 
     comes_far : (cur : ℕ) → cur + ahead w₀ < e → comes_at cur ≡ false
-    comes_far cur l = rw (lt-leb e (cur + ahead w₀) l, and_no (leb cur e)) (and_no (not (is_there (share_of proposer content))))
+    comes_far cur l = rw (lt-leb e (cur + ahead w₀) l, and-false (leb cur e)) (and-false (not (is_there (share_of proposer content))))
 
     comes_in : (cur : ℕ) → cur ≤ e → e ≤ cur + ahead w₀ → comes_at cur ≡ not (is_there (share_of proposer content))
-    comes_in cur l u = rw (le-leb cur e l, le-leb e (cur + ahead w₀) u) (and_yes (not (is_there (share_of proposer content))))
+    comes_in cur l u = rw (le-leb cur e l, le-leb e (cur + ahead w₀) u) (and-true (not (is_there (share_of proposer content))))
 
     pub handled_ok : (w : List ℕ) (cur : ℕ) (vs ds ts : Tk) (p : Tape) → SimOf w cur vs ds ts → Good (nodes w₀) p.rest
         → Gives (handle_message sender e proposer content w p) (λ _ v q l. Moved cur vs ds ts e (share_of proposer content) (comes_at cur) p.rest v q.rest l)

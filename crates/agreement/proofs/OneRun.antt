@@ -9,6 +9,7 @@ use Rattle.std.specs.Prelude.{Option, None, Some}
 use lib.Dec.{eqb, leb, ltb}
 use lib.ListN.{length, set}
 use borrow.Author.Tests.{eqb-true, eqb-false, ltb-true, leb-true, leb-false}
+use Rattle.std.proofs.lemmas.Bool.{and_parts}
 use Rattle.steps.specs.Numbers.{fault_limit, last_epoch}
 use Rattle.network.specs.declared.network_info.NetworkInfo.{NetworkInfo}
 use Rattle.network.specs.Network.{Network}
@@ -16,7 +17,6 @@ use Rattle.steps.specs.Answers.{Rec, tape_of}
 use Rattle.steps.specs.Steps.{Entry, faults, outputs}
 use Rattle.steps.specs.Table.{within}
 use Rattle.steps.specs.Taken.{or_else, first_taken, of_value, of_decision, first_decrypted, thirteens_in}
-use Rattle.steps.proofs.ChainLaws.{and-true}
 use Rattle.steps.proofs.TakenFromChain.{or_else_none, or_else_assoc, Good, table_good}
 use Rattle.steps.proofs.GivenWithLog.{gives_out}
 use Rattle.subset.proofs.TakenTests.{Grown, grown_or}
@@ -105,13 +105,13 @@ unfolding content_ok content_of share_of
 share_is n content proposer item ok = by (eqb content 1) refl (eqb content 2) refl (eqb content 3) refl
   where
     range : within 1 3 content ≡ true
-    range = (and-true (within 1 3 content) (ltb proposer n) ok).0
+    range = (and_parts (within 1 3 content) (ltb proposer n) ok).0
 
     low : 1 ≤ content
-    low = leb-true 1 content (and-true (leb 1 content) (leb content 3) range).0
+    low = leb-true 1 content (and_parts (leb 1 content) (leb content 3) range).0
 
     high : content ≤ 3
-    high = leb-true content 3 (and-true (leb 1 content) (leb content 3) range).1
+    high = leb-true content 3 (and_parts (leb 1 content) (leb content 3) range).1
 
     by : (a : Bool) → eqb content 1 ≡ a → (b : Bool) → eqb content 2 ≡ b → (c : Bool) → eqb content 3 ≡ c
         → share_of proposer (cond a (Subset Broadcast) (cond b (Subset Agreement) (DecryptionShare item))) ≡ cond c (Some proposer) None
@@ -128,7 +128,7 @@ share_is n content proposer item ok = by (eqb content 1) refl (eqb content 2) re
 
 pub named_below : (n content proposer : ℕ) → content_ok n content proposer ≡ true → proposer < n
 unfolding content_ok
-named_below n content proposer ok = ltb-true proposer n (and-true (within 1 3 content) (ltb proposer n) ok).1
+named_below n content proposer ok = ltb-true proposer n (and_parts (within 1 3 content) (ltb proposer n) ok).1
 
 skip_passes : (target : ℕ) (w : List ℕ) → skip_reply target w ≡ 0 → state_ok w ≡ true
 unfolding skip_reply
@@ -305,7 +305,7 @@ module _ (Holds : NetworkInfo → SubsetHandlingStrategy → Bool → List ℕ �
   run_all (c ∷ cs) w cur vs ds ts h n = go (eqb (turn_of w c).reply 0) refl (run_all cs)
     where
       parts : (ltb (turn_of w c).reply 20 ≡ true) × (none_fails (turns (state_after w c) cs) ≡ true)
-      parts = and-true (ltb (turn_of w c).reply 20) (none_fails (turns (state_after w c) cs)) n
+      parts = and_parts (ltb (turn_of w c).reply 20) (none_fails (turns (state_after w c) cs)) n
 
       go : (t : Bool) → eqb (turn_of w c).reply 0 ≡ t → Onward cs
           → Ran vs ds ts (cond t (events_of cur (turn_of w c).call (turn_of w c).step) [] ++ history (cond t (current_after cur (turn_of w c).call (turn_of w c).step) cur) (turns (state_after w c) cs))

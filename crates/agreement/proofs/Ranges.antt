@@ -7,12 +7,12 @@ use native.Mathlib.Omega.{arith}
 use lib.ListN.{length, set}
 use lib.Dec.{eqb, leb, ltb}
 use borrow.Author.Tests.{eqb-true, leb-true, ltb-true, ltb-false}
+use Rattle.std.proofs.lemmas.Bool.{and_parts}
 use Rattle.steps.specs.Numbers.{last_epoch, fault_limit}
 use Rattle.steps.specs.Table.{handle, within, table_ok}
 use Rattle.steps.specs.Answers.{Tape, tape_of}
 use Rattle.steps.specs.Steps.{Entry, faults}
 use Rattle.steps.specs.Runs.{Verdict, going, refused, failed, Run}
-use Rattle.steps.proofs.ChainLaws.{and-true}
 use Rattle.steps.proofs.Ranges.{by_test, AllSmall, table_small, Kept, Any}
 use Rattle.epoch.specs.declared.MessageContent.{MessageContent}
 use Rattle.steps.specs.declared.reader.Content.TheVariants.{Broadcast, Agreement}
@@ -127,12 +127,12 @@ module _ (w : List ℕ) (ok : state_ok w ≡ true) where
       by false true h = tt
       by false false h =
           by_test (eqb content 3) (handle item) (eqb item 0) h
-          (λ _ u. omega (arith, leb-true item 0xffff_ffff (and-true (leb 1 item) _ u).1))
+          (λ _ u. omega (arith, leb-true item 0xffff_ffff (and_parts (leb 1 item) _ u).1))
           (λ _ u. omega (arith, eqb-true item 0 u))
 
   proposer_known : (content proposer : ℕ) → content_ok (nodes w) content proposer ≡ true → proposer < nodes w
   unfolding content_ok
-  proposer_known content proposer e = ltb-true _ _ (and-true (within 1 3 content) _ e).1
+  proposer_known content proposer e = ltb-true _ _ (and_parts (within 1 3 content) _ e).1
 
   message_in_range : (scratch answers step : List ℕ) (sender epoch content proposer item : ℕ)
       → state_ok (message_call w scratch answers step sender epoch content proposer item).state ≡ true

@@ -7,11 +7,11 @@ use mathlib.Core.Bool.{Bool, true, false, cond, not, ◌&&◌, false≢true}
 use lib.Dec.{eqb, leb, ltb}
 use lib.ListN.{length}
 use borrow.Author.Tests.{eqb-true, not-false, leb-true, le-leb, lt-ltb}
+use Rattle.std.proofs.lemmas.Bool.{and_parts}
 use Rattle.steps.specs.Answers.{Rec, tape_of}
 use Rattle.steps.specs.Steps.{written}
 use Rattle.steps.specs.Table.{table_ok}
 use Rattle.steps.specs.Runs.{Verdict, going, refused, failed, number_of, Run}
-use Rattle.steps.proofs.ChainLaws.{and-true}
 use Rattle.state.specs.State.{nodes, current_epoch, state_ok}
 use Rattle.work.specs.HoneyBadger.{propose, handle_message}
 use Rattle.calls.specs.Calls.{After, zeroed, count_faults, is_end, conclude_as, conclude, propose_after, propose_call, content_ok, content_of, message_call, skip_reply}
@@ -106,7 +106,7 @@ is_refusal_lem [] s x e l ne = absurd (false≢true e)
 is_refusal_lem (y ∷ ys) s x e l ne = go (eqb x y) refl e (λ k. is_refusal_lem ys s₂.1 x k l ne)
   where
     s₂ : (cond (ltb y 20) (leb y 12) true ≡ true) × (all_low ys ≡ true)
-    s₂ = and-true (cond (ltb y 20) (leb y 12) true) (all_low ys) s
+    s₂ = and_parts (cond (ltb y 20) (leb y 12) true) (all_low ys) s
 
     go : (t : Bool) → eqb x y ≡ t → cond t true (one_of ys x) ≡ true → (one_of ys x ≡ true → is_refusal x ≡ true) → is_refusal x ≡ true
     go true z k ih =

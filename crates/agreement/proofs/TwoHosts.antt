@@ -10,9 +10,10 @@ use Rattle.std.specs.Prelude.{Option, None, Some}
 use lib.Dec.{eqb}
 use lib.ListN.{length}
 use borrow.Author.Tests.{eqb-true}
+use Rattle.std.proofs.lemmas.Bool.{and_parts}
+use Rattle.std.proofs.lemmas.Option.{none-some}
 use Rattle.steps.specs.Answers.{Rec}
 use Rattle.steps.specs.Taken.{or_else, is_true, concerned_after, concerns, first_decrypted}
-use Rattle.steps.proofs.ChainLaws.{and-true}
 use Rattle.steps.specs.Batches.{BatchEntry, Batch}
 use Rattle.agreement.specs.History.{Event, plaintext, decision_taken, value_taken, decrypted, Handed, handed, names_of, unreadable_in, unreadable, Reading, reading_of, value_concerned, readings_at, readings_in, readings_of13, readings_of_batches, readings_of_calls, readings}
 use Rattle.agreement.specs.Demand3.{Premises}
@@ -33,9 +34,6 @@ unfolding concerns
 concerned None p e = absurd (false≢true e)
 concerned (Some q) p e = ap Some (eqb-true q p e)
 
-none_some : {A : Type 0} (x : ℕ) → None ≡ Some x → A
-none_some x e = let z : ◌≡◌ {A = ℕ} 0 1 = cc in absurd (omega arith)
-
 -- a 12 that gave a plaintext
 module _ (value : ℕ → Option ℕ) (p v : ℕ) (is : value p ≡ Some v) where
   at_12 : (who : Option ℕ) (r : Rec) → r.kind ≡ 12 → who ≡ Some p → readings_at value who r ≡ reading 12 v r.a r.b ∷ []
@@ -44,21 +42,21 @@ module _ (value : ℕ → Option ℕ) (p v : ℕ) (is : value p ≡ Some v) wher
 
   found_in : (who : Option ℕ) (rs : List Rec) (x : ℕ) → first_decrypted p who rs ≡ Some x → (a : ℕ) × Memᴰ (reading 12 v a x) (readings_in value who rs)
   unfolding first_decrypted readings_in or_else
-  found_in who [] x e = none_some x e
+  found_in who [] x e = absurd (none-some x e)
   found_in who (r ∷ rs) x e = go (eqb r.kind 12 && concerns who p) refl e (found_in (concerned_after who r) rs x)
     where
       go : (t : Bool) → eqb r.kind 12 && concerns who p ≡ t → or_else (cond t (Some r.b) None) (first_decrypted p (concerned_after who r) rs) ≡ Some x
           → (first_decrypted p (concerned_after who r) rs ≡ Some x → (a : ℕ) × Memᴰ (reading 12 v a x) (readings_in value (concerned_after who r) rs))
           → (a : ℕ) × Memᴰ (reading 12 v a x) (readings_at value who r ++ readings_in value (concerned_after who r) rs)
       go true t e ih =
-          let h = and-true (eqb r.kind 12) (concerns who p) t in
+          let h = and_parts (eqb r.kind 12) (concerns who p) t in
           let z : r.b ≡ x = cc in
           (r.a, rw (at_12 who r (eqb-true r.kind 12 h.0) (concerned who p h.1), z) (Memᴰ.head refl))
       go false t e ih = let y = ih e in (y.0, Memᴰ.append_right (readings_at value who r) y.1)
 
 found_12 : (whole h : List Event) (e p v x : ℕ) → value_taken whole e p ≡ Some v → decrypted h e p ≡ Some x → (a : ℕ) × Memᴰ (reading 12 v a x) (readings_of_calls whole h)
 unfolding decrypted readings_of_calls or_else
-found_12 whole [] e p v x is k = none_some x k
+found_12 whole [] e p v x is k = absurd (none-some x k)
 found_12 whole (y ∷ ys) e p v x is k = go (eqb y.epoch e) refl k (found_12 whole ys e p v x is)
   where
     go : (t : Bool) → eqb y.epoch e ≡ t → or_else (cond t (first_decrypted p y.share_of y.answers) None) (decrypted ys e p) ≡ Some x

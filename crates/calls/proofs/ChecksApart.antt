@@ -3,18 +3,19 @@ use Rattle.std.specs.Prelude.{Ok, Err}
 use Prim.Native.Nat.{ℕ, ◌≤◌, ◌<◌}
 use native.Mathlib.Omega.{arith}
 use mathlib.Core.Path.{◌≡◌, refl, sym, ap, ◌∙◌}
-use mathlib.Core.List.{List}
-use mathlib.Core.Bool.{Bool, true, false, cond, not, ◌&&◌}
+use mathlib.Core.List.{List, ◌++◌}
+use mathlib.Core.Bool.{Bool, true, false, cond, not, ◌&&◌, false≢true, true≢false}
 use lib.Dec.{eqb, leb, ltb}
-use lib.ListN.{length}
+use lib.ListN.{length, take, drop, replicate}
+use lib.Seq.{length-take-le}
 use borrow.Author.Tests.{eqb-true, eq-eqb, ne_eqb, lt-leb, le-leb, lt-ltb, le-ltb, ltb-true, ltb-false, leb-false}
+use Rattle.std.proofs.lemmas.Bool.{and_parts}
 use Rattle.steps.specs.Numbers.{last_epoch}
 use Rattle.steps.specs.Table.{within, shape_ok, table_ok}
 use Rattle.steps.specs.Answers.{Tape, tape_of}
 use Rattle.steps.proofs.TableCheck.{shape_length}
 use Rattle.epoch.specs.declared.MessageContent.{MessageContent}
 use Rattle.state.specs.State.{nodes, current_epoch, scratch_of, state_ok}
-use Rattle.state.proofs.Bools.{never, and_right}
 use Rattle.work.specs.declared.honey_badger.Call.TheVariants.{Propose, Message}
 use Rattle.work.specs.HoneyBadger.{propose, handle_message}
 use Rattle.calls.specs.Calls.{After, after, zeroed, conclude, content_ok, item_ok, content_of, propose_after, propose_call, message_call}
@@ -56,7 +57,7 @@ module _ (a b : ℕ) where
     where
       go : (t : Bool) → eqb a 0 ≡ t → cond t b a ≡ 0 → (a ≡ 0) × (b ≡ 0)
       go true z e = (eqb-true a 0 z, e)
-      go false z e = never (sym (eq-eqb a 0 e) ∙ z)
+      go false z e = absurd (true≢false (sym (eq-eqb a 0 e) ∙ z))
 
   -- a reply that the first has not is the second's
   pub then_past : leaves_scratch (then_check a b) ≡ false → leaves_scratch a ≡ false
@@ -101,8 +102,8 @@ module _ (state : List ℕ) (scratch : ℕ) (answers : List ℕ) where
     where
       go : (a b c : Bool) → state_ok state ≡ a → ltb scratch (scratch_of state) ≡ b → leaves_scratch (cond (not a) 3 (cond b 4 (cond (not c) 5 0))) ≡ false
           → (state_ok state ≡ true) × (scratch_of state ≤ scratch)
-      go false b c x y e = never e
-      go true true c x y e = never e
+      go false b c x y e = absurd (true≢false e)
+      go true true c x y e = absurd (true≢false e)
       go true false c x y e = (x, ltb-false _ _ y)
 
   pub first_ok : first_checks state scratch answers ≡ 0 → state_ok state ≡ true
@@ -124,7 +125,7 @@ table_first n answers e = go (shape_ok answers) _ refl e
   where
     go : (t u : Bool) → shape_ok answers ≡ t → cond t u false ≡ true → 4 ≤ length answers
     go true u z e = shape_length answers z
-    go false u z e = never (sym e)
+    go false u z e = absurd (false≢true e)
 
 module _ (sender content proposer item : ℕ) (state : List ℕ) where
   pub message_passed : message_check sender content proposer item state ≡ 0 → (sender < nodes state) × (proposer < nodes state)
@@ -135,7 +136,7 @@ module _ (sender content proposer item : ℕ) (state : List ℕ) where
           → ◌≡◌ {A = ℕ} (cond a 11 (cond (not b) 7 (cond (not c) 7 0))) 0 → (sender < nodes state) × (proposer < nodes state)
       go true b c x y e = absurd (omega arith)
       go false false c x y e = absurd (omega arith)
-      go false true c x y e = (leb-false _ _ x, ltb-true _ _ (and_right (within 1 3 content) _ y))
+      go false true c x y e = (leb-false _ _ x, ltb-true _ _ (and_parts (within 1 3 content) _ y).1)
 
 -- A CALL MAY RUN where its checks answer 0
 module _ (state scratch answers : List ℕ) where
@@ -215,7 +216,7 @@ module _ (state scratch step : List ℕ) (run : After) {call : After} {checks : 
   ends_first t = go (eqb r 0) refl ∙ by_reply
     where
       go : (z : Bool) → eqb r 0 ≡ z → after r state scratch step ≡ cond z run (cond (leaves_scratch r) (after r state scratch step) (after r state (zeroed state scratch) step))
-      go true z = never (sym t ∙ ap (leaves_scratch) (eqb-true r 0 z))
+      go true z = absurd (true≢false (sym t ∙ ap (leaves_scratch) (eqb-true r 0 z)))
       go false z = rw t
 
   -- the other checks

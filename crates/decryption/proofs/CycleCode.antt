@@ -1,6 +1,6 @@
 -- Starting and combining: each goes on with the other, as in the Rust. Assumes nothing.
 use Prim.Native.Nat.{ℕ, ◌<◌, ◌≤◌}
-use mathlib.Core.Path.{◌≡◌, refl, ap, ◌∙◌}
+use mathlib.Core.Path.{◌≡◌, refl, ap, ◌∙◌, ap₂}
 use mathlib.Core.List.{List, [], ◌∷◌}
 use mathlib.Core.Bool.{Bool, true, false, cond, ◌&&◌}
 use Rattle.std.specs.Prelude.{Option, None, Some, Ok, Err}
@@ -12,13 +12,12 @@ use Rattle.steps.specs.Told.{told, heard_in}
 use native.Mathlib.Omega.{arith}
 use lib.ListN.{set}
 use lib.Dec.{eqb}
-use borrow.Author.Tests.{ltb-true, le-leb, lt-leb, eq-eqb, ne_eqb}
+use borrow.Author.Tests.{le-leb, lt-leb, eq-eqb, ne_eqb}
 use Rattle.network.specs.declared.network_info.NetworkInfo.{NetworkInfo}
-use Rattle.network.specs.Network.{Network, is_validator}
+use Rattle.network.specs.Network.{is_validator}
 use Rattle.steps.specs.Answers.{Tape, ask}
 use Rattle.steps.specs.Steps.{Out, put_entry, put_all, message}
 use Rattle.steps.specs.Runs.{Verdict, going, failed, Run, ends, before, onward, heard, Left, leaves}
-use Rattle.steps.proofs.ChainLaws.{and-true}
 use Rattle.steps.proofs.AfterRun.{Afterwards, after_cond, after_onward, after_any, after_out, after_ask}
 use Rattle.steps.proofs.Logic.{anything}
 use Rattle.steps.proofs.StateKept.{holding}
@@ -29,28 +28,17 @@ pub use Rattle.decryption.proofs.Walk.{Does}
 use Rattle.decryption.proofs.Walk.{remove_keeps}
 use Rattle.decryption.proofs.ShareCode.{unset}
 
--- two ways on that agree where they are taken
-pub cond_cong : {A : Type 0} (x : Bool) {a b c d : A} → a ≡ b → c ≡ d → cond x a c ≡ cond x b d
-cond_cong true p q = p
-cond_cong false p q = q
-
 -- checking shares leaves what is not a share
 pub remove_ended : (x : Bool) (td : ThresholdDecrypt) (p : Tape) → td.terminated ≡ x → (remove_invalid_shares td p).state.terminated ≡ x
 remove_ended x td p e =
     let P : ThresholdDecrypt → Type 0 = λ s. s.terminated ≡ x in
     remove_keeps anything (holding P (λ i. Unit {0})) (record { reads = λ k e. tt; faults = λ k a e. tt; share = λ td i v u h. h; removed = λ td i h. h }) 16 0 0 td p e
 
--- a validator has an index among the sixteen
-pub own_below : (net : NetworkInfo) → Network net → (is_validator net && net.has_key) ≡ true → net.our_id < 16
-own_below net n e =
-    let h : net.our_id < net.num_nodes = ltb-true _ _ (and-true _ _ e).0 in
-    omega (arith, n.sixteen)
-
 module _ (net : NetworkInfo) (proposer : ℕ) where
   own_cong : (f g : Does) (td : ThresholdDecrypt) (p : Tape) → ((s : List ℕ) (q : Tape) → f (with_shares td s) q ≡ g (with_shares td s) q) → own_share net proposer f td p ≡ own_share net proposer g td p
   unfolding own_share
   own_cong f g td p h =
-      cond_cong (is_validator net && net.has_key)
+      ap₂ (cond (is_validator net && net.has_key))
       (heard_cong (ask p 11) td _ _ (λ a b q. ap (before (message 3 proposer b ∷ [])) (h (set td.shares net.our_id b) q)))
       (h td.shares p)
 
@@ -92,8 +80,8 @@ module _ (net : NetworkInfo) (proposer : ℕ) where
   unfolding start_decryption start_with
   start_ended td p =
       let r = remove_invalid_shares (with_end td) p in
-      cond_cong td.had_input refl
-      (cond_cong (eqb td.ciphertext 0) refl
+      ap₂ (cond td.had_input) refl
+      (ap₂ (cond (eqb td.ciphertext 0)) refl
       (onward_at r _ _
       (λ _ _. own_cong (ends (going None)) (try_with net (ends (going None))) (with_input r.state) r.tape
       (λ s q. try_quiet (ends (going None)) (with_shares (with_input r.state) s) q (remove_ended true (with_end td) p refl)))))

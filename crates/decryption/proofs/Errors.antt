@@ -1,6 +1,6 @@
 -- The Rust's errors: `CiphertextIsNone` cannot arise, a duplicate share combines nothing, and 24 and 25 are the only failures. Assumes nothing.
 use Prim.Native.Nat.{ℕ}
-use mathlib.Core.Path.{◌≡◌, refl, sym, ap, ◌∙◌}
+use mathlib.Core.Path.{◌≡◌, refl, sym, ap, ◌∙◌, ap₂}
 use mathlib.Core.List.{[], ◌∷◌}
 use mathlib.Core.Bool.{Bool, true, false, cond, false≢true}
 use Rattle.std.specs.Prelude.{Option, None}
@@ -18,7 +18,7 @@ use Rattle.steps.proofs.FailureNumbers.{only_number, numbers, numbers_permit, fa
 use Rattle.decryption.specs.Decrypt.{with_shares, with_input, with_end, is_some, is_sender, count_shares, set_ciphertext, remove_invalid_shares, own_share, combine, try_with, start_decryption, try_output, store_share, handle_message}
 use Rattle.decryption.specs.declared.ThresholdDecrypt.{ThresholdDecrypt}
 use Rattle.steps.proofs.AfterRun.{Afterwards, after_cond, after_out, after_about}
-use Rattle.decryption.proofs.CycleCode.{cond_cong, start_redundant, start_onward, try_few, try_none}
+use Rattle.decryption.proofs.CycleCode.{start_redundant, start_onward, try_few, try_none}
 use Rattle.decryption.proofs.Walk.{Does, Checks, Combines, any_combines, set_keeps as set_walk, remove_keeps as remove_walk, start_keeps as start_walk, try_keeps as try_walk, store_keeps as store_walk, handle_keeps as handle_walk}
 use Rattle.decryption.proofs.MessageCode.{store_first, store_again, handle_ended, handle_valid}
 use Rattle.decryption.proofs.ShareCode.{valid_early, valid_told}
@@ -52,8 +52,8 @@ module _ (net : NetworkInfo) (proposer : ℕ) where
   pub try_has : (f g : Does) → ((td : ThresholdDecrypt) (p : Tape) → (td.ciphertext ≡ 0 → ⊥) → f td p ≡ g td p) → (td : ThresholdDecrypt) (p : Tape) → try_with net f td p ≡ try_with net g td p
   unfolding try_with
   try_has f g h td p =
-      cond_cong td.terminated refl
-      (cond_cong (leb (count_shares td.shares) net.num_faulty) refl
+      ap₂ (cond td.terminated) refl
+      (ap₂ (cond (leb (count_shares td.shares) net.num_faulty)) refl
       (go (eqb td.ciphertext 0) refl))
     where
       k : ThresholdDecrypt → Tape → Run ThresholdDecrypt (Option ℕ)

@@ -7,13 +7,13 @@ use native.Mathlib.Omega.{arith}
 use lib.ListN.{set}
 use lib.Dec.{leb, eqb}
 use borrow.Author.Tests.{ne_eqb, leb-true}
+use Rattle.std.proofs.lemmas.Bool.{and_parts}
 use Rattle.network.specs.declared.network_info.NetworkInfo.{NetworkInfo}
 use Rattle.network.specs.Network.{is_validator}
 use Rattle.steps.specs.Table.{within}
 use Rattle.steps.specs.Answers.{Tape}
 use Rattle.steps.specs.Steps.{message, fault}
 use Rattle.steps.specs.Runs.{Run}
-use Rattle.steps.proofs.ChainLaws.{and-true}
 use Rattle.steps.proofs.Logic.{Hand, hand, nothing, Terms, Permits, Logic, here, there, test, fail, move, put, hear, next, tell}
 use Rattle.decryption.specs.Decrypt.{with_ciphertext, with_shares, with_input, with_end, is_some, is_sender, count_shares, set_ciphertext, is_share_valid, check_share, remove_from, own_share, start_with, combine, try_with, start_decryption, try_output, store_share, handle_message}
 use Rattle.decryption.specs.declared.ThresholdDecrypt.{ThresholdDecrypt}
@@ -166,7 +166,7 @@ module _ (T : Terms) (L : Logic T ThresholdDecrypt) where
 
 -- where it makes no difference what is read and written, and every step is allowed
 pub not_five : (k : ℕ) → within 6 7 k ≡ true → eqb k 5 ≡ false
-not_five k e = ne_eqb k 5 (λ z. omega (arith, leb-true 6 k (and-true (leb 6 k) (leb k 7) e).0))
+not_five k e = ne_eqb k 5 (λ z. omega (arith, leb-true 6 k (and_parts (leb 6 k) (leb k 7) e).0))
 
 pub any_combines : {T : Terms} (L : Logic T ThresholdDecrypt) → ((s t : ThresholdDecrypt) → L.Step None s None t) → Permits T → T.Number 24 → Combines T L
 any_combines L step P number = record {

@@ -7,10 +7,11 @@ use mathlib.Core.Bool.{Bool, true, false, ◌&&◌}
 use lib.Dec.{leb, ltb}
 use lib.ListN.{length, set, get_or, replicate, replicate-append-replicate}
 use borrow.Author.Tests.{leb-true, ltb-true}
+use Rattle.std.proofs.lemmas.Bool.{and_parts}
 use Rattle.steps.specs.Table.{within}
 use Rattle.state.specs.Schedule.{schedule_ok, used_first, used_second}
 use Rattle.state.specs.State.{state_length, all_hold}
-use Rattle.state.proofs.Bools.{and_left, and_right, test_holds}
+use Rattle.state.proofs.Bools.{test_holds}
 use Rattle.state.proofs.Sheet.{OnSheet}
 use Rattle.state.proofs.Window.{header_first}
 use Rattle.engine.specs.Create.{Numbers, number_tests, numbers_ok, created_header, created}
@@ -24,8 +25,8 @@ module _ (c : Numbers) where
   pub numbers_on_sheet : numbers_ok c ≡ true → OnSheet c.nodes c.ahead
   unfolding number_tests
   numbers_on_sheet h = (
-    leb-true _ _ (and_left (leb 1 c.nodes) _ (number_test h 0)),
-    leb-true _ _ (and_right (leb 1 c.nodes) _ (number_test h 0)),
+    leb-true _ _ (and_parts (leb 1 c.nodes) _ (number_test h 0)).0,
+    leb-true _ _ (and_parts (leb 1 c.nodes) _ (number_test h 0)).1,
     leb-true _ _ (number_test h 2),
   )
 
@@ -37,7 +38,7 @@ module _ (c : Numbers) where
       go : (t : Bool) → numbers_ok c ≡ t → false ≡ t
       go false h = refl
       go true h =
-          let few = leb-true c.nodes 16 (and_right (leb 1 c.nodes) _ (number_test h 0)) in
+          let few = leb-true c.nodes 16 (and_parts (leb 1 c.nodes) _ (number_test h 0)).1 in
           let third = ltb-true (3 * c.faulty) c.nodes (number_test h 1) in
           absurd (omega arith)
 

@@ -3,7 +3,7 @@ use Prim.Native.Nat.{ℕ, ◌+◌, ◌/◌, ◌≤◌, ◌<◌}
 use native.Mathlib.Omega.{arith}
 use mathlib.Core.Path.{◌≡◌, refl, sym, ap, ◌∙◌}
 use mathlib.Core.List.{List, [], ◌∷◌, ◌++◌}
-use mathlib.Core.Bool.{Bool, true, false, cond, not, and-false}
+use mathlib.Core.Bool.{Bool, true, false, cond, not, and-false, false≢true, true≢false}
 use lib.Dec.{eqb, leb, ltb}
 use lib.ListN.{length, get_or, drop, replicate, length-append, length-drop, length-replicate, get_or-replicate, get_or-append}
 use lib.Seq.{drop_at}
@@ -16,7 +16,6 @@ use Rattle.work.specs.HoneyBadger.{skip_to_epoch, has_input, received_proposals}
 use Rattle.calls.specs.Calls.{After, after, zeroed, is_end, conclude_as, conclude, propose_after, propose_call, message_call, skip_reply, skip_state, query_reply, current_epoch_result, has_input_result, received_proposals_result, fault_count_result}
 use Rattle.engine.specs.Create.{Numbers, numbers_ok, create_reply, create_state}
 use Rattle.engine.specs.Demand1.{is_refusal, one_of, propose_failures, propose_replies, message_failures, message_replies, Promised}
-use Rattle.state.proofs.Bools.{never}
 use Rattle.work.proofs.FailureNumbers.{Meant, Only, only_propose, only_message}
 use Rattle.calls.proofs.CheckCases.{by_branch, by_propose, by_message}
 
@@ -39,7 +38,7 @@ AllHigh (y ∷ ys) = (20 ≤ y) × AllHigh ys
 
 high : (ys : List ℕ) (x : ℕ) → AllHigh ys → one_of ys x ≡ true → 20 ≤ x
 unfolding one_of
-high [] x a h = never (sym h)
+high [] x a h = absurd (false≢true h)
 high (y ∷ ys) x a h = go (eqb x y) refl h (high ys x a.1)
   where
     go : (t : Bool) → eqb x y ≡ t → cond t true (one_of ys x) ≡ true → (one_of ys x ≡ true → 20 ≤ x) → 20 ≤ x
@@ -53,7 +52,7 @@ module _ (replies state scratch step : List ℕ) where
 
   -- 3 and 4 leave the scratch too
   fine_first : (n : ℕ) → one_of replies n ≡ true → one_of (3 ∷ 4 ∷ []) n ≡ true → Fine (after n state scratch step)
-  fine_first n l o = record { listed = l; refusal = λ _. (refl, refl); zeros = rw o; room = λ h. never (sym o ∙ h) }
+  fine_first n l o = record { listed = l; refusal = λ _. (refl, refl); zeros = rw o; room = λ h. absurd (true≢false (sym o ∙ h)) }
 
   -- a refusal, or success, with the scratch zeroed
   module _ (room : scratch_of state ≤ length scratch) where
@@ -63,7 +62,7 @@ module _ (replies state scratch step : List ℕ) where
     fine_end : (n : ℕ) (state' step' : List ℕ) → one_of replies n ≡ true → one_of (3 ∷ 4 ∷ []) n ≡ false → is_refusal n ≡ false
         → Fine (after n state' (zeroed state scratch) step')
     fine_end n state' step' l o i =
-        record { listed = l; refusal = λ h. never (sym h ∙ i); zeros = rw o; room = λ _. room }
+        record { listed = l; refusal = λ h. absurd (true≢false (sym h ∙ i)); zeros = rw o; room = λ _. room }
 
     low_not : (n : ℕ) → 20 ≤ n → one_of (3 ∷ 4 ∷ []) n ≡ false
     unfolding one_of
@@ -161,7 +160,7 @@ module _ (state scratch : List ℕ) where
 -- SKIP and CREATE: a refusal leaves the state, and the reply is one of those listed
 pub skip_refusal : (target : ℕ) (w : List ℕ) → is_refusal (skip_reply target w) ≡ true → skip_state target w ≡ w
 unfolding skip_state
-skip_refusal target w h = rw (ne_eqb (skip_reply target w) 0 (λ e. never (sym h ∙ ap is_refusal e)))
+skip_refusal target w h = rw (ne_eqb (skip_reply target w) 0 (λ e. absurd (true≢false (sym h ∙ ap is_refusal e))))
 
 pub skip_replies : (target : ℕ) (w : List ℕ) → one_of (0 ∷ 3 ∷ 12 ∷ []) (skip_reply target w) ≡ true
 unfolding skip_reply one_of
@@ -174,7 +173,7 @@ skip_replies target w = go (not (state_ok w)) (ltb last_epoch target)
 
 pub create_refusal : (c : Numbers) (w : List ℕ) → is_refusal (create_reply c w) ≡ true → create_state c w ≡ w
 unfolding create_state
-create_refusal c w h = rw (ne_eqb (create_reply c w) 0 (λ e. never (sym h ∙ ap is_refusal e)))
+create_refusal c w h = rw (ne_eqb (create_reply c w) 0 (λ e. absurd (true≢false (sym h ∙ ap is_refusal e))))
 
 pub create_replies : (c : Numbers) (w : List ℕ) → one_of (0 ∷ 1 ∷ 2 ∷ []) (create_reply c w) ≡ true
 unfolding create_reply one_of
@@ -193,7 +192,7 @@ query_refusal w h result = go (state_ok w) refl h
   where
     go : (t : Bool) → state_ok w ≡ t → is_refusal (cond t 0 3) ≡ true
         → (cond t (current_epoch w) result ≡ result) × (cond t (cond (has_input w) 1 0) result ≡ result) × (cond t (received_proposals w) result ≡ result) × (cond t (fault_count w) result ≡ result)
-    go true e h = never (sym h)
+    go true e h = absurd (false≢true h)
     go false e h = (refl, refl, refl, refl)
 
 pub query_replies : (w : List ℕ) → one_of (0 ∷ 3 ∷ []) (query_reply w) ≡ true

@@ -11,11 +11,11 @@ use borrow.Author.Tests.{eqb-true, eqb-false}
 use Rattle.network.specs.declared.network_info.NetworkInfo.{NetworkInfo}
 use Rattle.steps.specs.Answers.{Rec, Tape}
 use Rattle.steps.specs.Runs.{going, ends}
-use Rattle.steps.specs.Taken.{or_else, is_there}
+use Rattle.steps.specs.Taken.{or_else}
 use Rattle.subset.specs.Words.{epoch_length, accepted_at, count_at, record_at, value_at, arrival_at, load_proposal}
 use Rattle.steps.proofs.AfterRun.{Afterwards, after_map, after_cond, after_onward, Reads, after_about}
 use Rattle.proposal.proofs.TakenByProposal.{output_of}
-use Rattle.subset.proofs.Invariant.{Held, is_out}
+use Rattle.subset.proofs.Invariant.{Held, is_out, there}
 use Rattle.subset.proofs.TakenTests.{put_same, put_other, more}
 use Rattle.epochwords.specs.declared.SubsetHandlingStrategy.{SubsetHandlingStrategy}
 use Rattle.epochwords.specs.Words.{is_accepted, accept, DecryptionState, missing, ongoing, complete, load_decryption, store_decryption}
@@ -189,10 +189,6 @@ output_value (Some v) None x e = let z : ◌≡◌ {A = ℕ} 0 1 = cc in absurd 
 output_value (Some v) (Some zero) x e = let z : ◌≡◌ {A = ℕ} 0 1 = cc in absurd (omega arith)
 output_value (Some v) (Some (suc d)) x e = e
 
-output_there : (o : Option ℕ) (x : ℕ) → o ≡ Some x → is_there o ≡ true
-unfolding is_there
-output_there o x e = rw e
-
 module _ (net : NetworkInfo) (strategy : SubsetHandlingStrategy) (encrypted : Bool) (old : ℕ → Bool) (v d : ℕ → Option ℕ) where
   abbrev N : ℕ
   N = net.num_nodes
@@ -244,7 +240,7 @@ module _ (net : NetworkInfo) (strategy : SubsetHandlingStrategy) (encrypted : Bo
       (contribution_ok net p (get_or w (value_at N p) 0) w u v t who entry.0 h.size strategy encrypted (output_value (v p) (d p) (get_or w (value_at N p) 0) entry.1) k) (λ _ w₁ z a.
       after_map (handle_from net strategy encrypted m (i + 1) w₁ z) _ _
       (handle_ok m (i + 1) w₁ z a.t' a.who' (held_same old N w w₁ v d a.same h) a.texts (omega (arith, a.same.low count_at (omega arith) (λ e. omega arith)))) (λ _ w₂ y b.
-      looped_more m i w w₁ w₂ t who u.rest z.rest y.rest p refl (output_there (output_of (v p) (d p)) (get_or w (value_at N p) 0) entry.1) a b)))
+      looped_more m i w w₁ w₂ t who u.rest z.rest y.rest p refl (there (output_of (v p) (d p)) (get_or w (value_at N p) 0) entry.1) a b)))
     where
       p : ℕ
       p = get_or w (arrival_at N i) 0

@@ -7,6 +7,7 @@ use Rattle.std.specs.Prelude.{Option, None, Some}
 use native.Mathlib.Omega.{arith}
 use lib.ListN.{length, get_or}
 use lib.Dec.{eqb}
+use Rattle.std.proofs.lemmas.Option.{none-some}
 use Rattle.network.specs.declared.network_info.NetworkInfo.{NetworkInfo}
 use Rattle.steps.specs.Answers.{Rec, Tape}
 use Rattle.steps.specs.Runs.{Verdict, going, refused, failed, Run, ends, onward_as, onward}
@@ -33,9 +34,6 @@ TextOk true (complete x) a v t = (t ≡ Some x) × (a ≡ true)
 TextOk false missing a v t = (t ≡ None) × (a ≡ false)
 TextOk false (ongoing td) a v t = (t ≡ None) × (td.ciphertext ≡ 0) × (a ≡ false)
 TextOk false (complete x) a v t = (t ≡ None) × (v ≡ Some x) × (a ≡ true)
-
-none_some : {A : Type 0} (o : Option ℕ) (x : ℕ) → o ≡ None → o ≡ Some x → A
-none_some o x e f = let z : ◌≡◌ {A = ℕ} 0 1 = cc in absurd (omega arith)
 
 -- of the same three words
 pub text_words : (encrypted : Bool) (n : ℕ) (w w' : List ℕ) (q : ℕ) (a : Bool) (v t : Option ℕ)
@@ -153,9 +151,9 @@ share_text : (encrypted : Bool) (td td' : ThresholdDecrypt) (o : Option ℕ) (a 
     → TextOk encrypted (entry_after (going o) td') a v (or_else t o)
 unfolding TextOk entry_after or_else
 share_text true td td' None a v t ws r h s = (rw h.0, λ n. h.1 (λ z. n (s.keeps ∙ z)))
-share_text true td td' (Some x) a v t ws r h s = (rw h.0, h.1 (λ z. none_some (Some x) x (s.early z) refl))
+share_text true td td' (Some x) a v t ws r h s = (rw h.0, h.1 (λ z. absurd (none-some x (sym (s.early z)))))
 share_text false td td' None a v t ws r h s = (rw h.0, s.keeps ∙ h.1, h.2)
-share_text false td td' (Some x) a v t ws r h s = none_some (Some x) x (s.early h.1) refl
+share_text false td td' (Some x) a v t ws r h s = absurd (none-some x (sym (s.early h.1)))
 
 text_new : (encrypted : Bool) (a : Bool) (v t : Option ℕ) → TextOk encrypted missing a v t → TextOk encrypted (ongoing new) a v t
 unfolding TextOk

@@ -11,6 +11,7 @@ use lib.ListN.{get_or, replicate, length-replicate}
 use lib.Seq.{get_or-set_same}
 use lib.Dec.{eqb}
 use borrow.Author.Tests.{eqb-true, eqb-false}
+use Rattle.std.proofs.lemmas.Bool.{and_parts}
 use Rattle.steps.specs.declared.reader.Content.{Content}
 use Rattle.steps.specs.declared.reader.Content.TheVariants.{Broadcast, Agreement}
 use Rattle.network.specs.declared.network_info.NetworkInfo.{NetworkInfo}
@@ -20,7 +21,6 @@ use Rattle.steps.specs.Table.{within}
 use Rattle.steps.specs.Runs.{Verdict, going, refused, failed, Run}
 use Rattle.steps.specs.Taken.{or_else, is_there, is_true, of_value, of_decision}
 use Rattle.steps.specs.Bits.{has_bit}
-use Rattle.steps.proofs.ChainLaws.{and-true}
 use Rattle.steps.proofs.TakenFromChain.{Good}
 use Rattle.steps.proofs.ReadByKinds.{Past, Others, past_first, past_thirteens, past_decrypted, past_good}
 use Rattle.decryption.specs.Decrypt.{handle_message as handle_share}
@@ -308,7 +308,7 @@ settled_at n zero p w e q l h a = absurd (omega arith)
 settled_at n (suc m) p w e q l h a = go (eqb q p) refl (settled_at n m (p + 1) w two.1 q)
   where
     two : (cond (is_accepted w p) (is_settled (get_or w (decryption_at n p) 0)) true ≡ true) × (decrypted_from (record_length n) m (p + 1) w ≡ true)
-    two = and-true (cond (is_accepted w p) (is_settled (get_or w (decryption_at n p) 0)) true) (decrypted_from (record_length n) m (p + 1) w) e
+    two = and_parts (cond (is_accepted w p) (is_settled (get_or w (decryption_at n p) 0)) true) (decrypted_from (record_length n) m (p + 1) w) e
 
     go : (x : Bool) → eqb q p ≡ x → (p + 1 ≤ q → q < p + 1 + m → is_accepted w q ≡ true → is_settled (get_or w (decryption_at n q) 0) ≡ true) → is_settled (get_or w (decryption_at n q) 0) ≡ true
     go true y f =
@@ -338,12 +338,12 @@ settled_known v d zero p s q l h t = absurd (omega arith)
 settled_known v d (suc m) p s q l h t = go (eqb q p) refl (settled_known v d m (p + 1) parts.1 q)
   where
     parts : (is_there (d p) && (not (is_true (d p)) || is_there (v p)) ≡ true) × (settled_from v d m (p + 1) ≡ true)
-    parts = and-true (is_there (d p) && (not (is_true (d p)) || is_there (v p))) (settled_from v d m (p + 1)) s
+    parts = and_parts (is_there (d p) && (not (is_true (d p)) || is_there (v p))) (settled_from v d m (p + 1)) s
 
     go : (x : Bool) → eqb q p ≡ x → (p + 1 ≤ q → q < p + 1 + m → is_true (d q) ≡ true → is_there (v q) ≡ true) → is_there (v q) ≡ true
     go true e ih =
         let z : q ≡ p = eqb-true q p e in
-        let here : not (is_true (d p)) || is_there (v p) ≡ true = (and-true (is_there (d p)) (not (is_true (d p)) || is_there (v p)) parts.0).1 in
+        let here : not (is_true (d p)) || is_there (v p) ≡ true = (and_parts (is_there (d p)) (not (is_true (d p)) || is_there (v p)) parts.0).1 in
         rw z (rw (rw z at t) at here)
     go false e ih =
         let ne : q ≡ p → ⊥ = eqb-false q p e in
@@ -358,7 +358,7 @@ ready_holds net strategy encrypted w v d t h e = go h.stage
     n = net.num_nodes
 
     two : (is_complete w ≡ true) × (decrypted_from (record_length net.num_nodes) net.num_nodes 0 w ≡ true)
-    two = and-true (is_complete w) (decrypted_from (record_length net.num_nodes) net.num_nodes 0 w) e
+    two = and_parts (is_complete w) (decrypted_from (record_length net.num_nodes) net.num_nodes 0 w) e
 
     settled : (q : ℕ) → q < net.num_nodes → is_accepted w q ≡ true → is_settled (get_or w (decryption_at net.num_nodes q) 0) ≡ true
     settled q l a = settled_at n n 0 w two.1 q (omega arith) (omega arith) a

@@ -2,13 +2,14 @@
 use Prim.Native.Nat.{ℕ, zero, suc, ◌+◌, ◌-◌, ◌≤◌, ◌<◌}
 use mathlib.Core.Path.{◌≡◌, refl, sym, ap, ◌∙◌}
 use mathlib.Core.List.{List}
-use mathlib.Core.Bool.{Bool, true, false, cond, ◌&&◌, not, false≢true}
+use mathlib.Core.Bool.{Bool, true, false, cond, false≢true}
 use Rattle.std.specs.Prelude.{Option, None, Some}
 use native.Mathlib.Omega.{arith}
 use lib.ListN.{length, get_or, set, length-set}
 use lib.Seq.{get_or-set_same, get_or-set_other}
 use lib.Dec.{eqb}
 use borrow.Author.Tests.{eqb-true, eqb-false}
+use Rattle.std.proofs.Math.Bool.{and-not_self}
 use Rattle.network.specs.declared.network_info.NetworkInfo.{NetworkInfo}
 use Rattle.steps.specs.Answers.{Tape}
 use Rattle.steps.specs.Runs.{going, ends, before}
@@ -99,14 +100,10 @@ output_complete (Some v) None x e = let z : ◌≡◌ {A = ℕ} 0 1 = cc in absu
 output_complete (Some v) (Some zero) x e = let z : ◌≡◌ {A = ℕ} 0 1 = cc in absurd (omega arith)
 output_complete (Some v) (Some (suc d)) x e = refl
 
-and_not : (x : Bool) → x && not x ≡ false
-and_not true = refl
-and_not false = refl
-
 none_new : (v d : ℕ → Option ℕ) (m p : ℕ) → count_if (is_new (is_out v d) v d) m p ≡ 0
 unfolding count_if
 none_new v d zero p = refl
-none_new v d (suc m) p = rw (and_not (is_out v d p)) (omega (arith, none_new v d m (p + 1)))
+none_new v d (suc m) p = rw (and-not_self (is_out v d p)) (omega (arith, none_new v d m (p + 1)))
 
 module _ (n : ℕ) (w : List ℕ) where
   abbrev cut : List ℕ

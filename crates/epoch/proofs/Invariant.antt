@@ -10,12 +10,13 @@ use lib.ListN.{length, get_or, set, length-set}
 use lib.Seq.{get_or-set_same, get_or-set_other}
 use lib.Dec.{leb}
 use borrow.Author.Tests.{leb-true}
+use Rattle.std.proofs.lemmas.Bool.{and_parts}
+use Rattle.std.specs.Cmp.{both_ways}
 use Rattle.network.specs.declared.network_info.NetworkInfo.{NetworkInfo}
 use Rattle.network.specs.Network.{num_correct}
 use Rattle.steps.specs.Answers.{Rec, Tape}
 use Rattle.steps.specs.Runs.{going, ends}
 use Rattle.steps.specs.Taken.{is_there, is_true, ones_from}
-use Rattle.steps.proofs.ChainLaws.{and-true, same_tests}
 use Rattle.steps.proofs.TakenFromChain.{Bit}
 use Rattle.subset.specs.Words.{epoch_length, status_at, decided_at, accepted_at, count_at, record_at}
 use Rattle.subset.specs.Rule.{settled_from, is_over}
@@ -98,7 +99,7 @@ module _ (net : NetworkInfo) (strategy : SubsetHandlingStrategy) (encrypted : Bo
         (text_words encrypted n w₁ (first_contributions n 0 w₁) q (is_accepted w₁ q) (v q) (b.t' q) (λ j x y.
         cut_word n w₁ (record_at n q j) (λ e. omega arith) (λ i e. differ n q i j 1 (omega arith) (omega arith) (λ z. omega arith) e) (λ i e. differ n q i j 7 (omega arith) (omega arith) (λ z. omega arith) e))
         (b.texts q l));
-    accepted = λ q l. bit q ∙ same_tests (is_accepted w₁ q) (is_out v d q) (b.outs (λ q l e. h.gone q (sym (acc q l) ∙ e)) q l) (back q l);
+    accepted = λ q l. bit q ∙ both_ways (is_accepted w₁ q) (is_out v d q) (b.outs (λ q l e. h.gone q (sym (acc q l) ∙ e)) q l) (back q l);
   }
     where
       bit : (q : ℕ) → is_accepted (first_contributions n 0 w₁) q ≡ is_accepted w₁ q
@@ -162,7 +163,7 @@ module _ (net : NetworkInfo) (strategy : SubsetHandlingStrategy) (encrypted : Bo
       })
     where
       two : (settled_from v d N 0 ≡ true) × (leb (num_correct net) (ones_from d N 0) ≡ true)
-      two = and-true (settled_from v d N 0) (leb (num_correct net) (ones_from d N 0)) o
+      two = and_parts (settled_from v d N 0) (leb (num_correct net) (ones_from d N 0)) o
 
 -- where some contributions were handled before, and the call says whether the subset is over
 pub process_ok : (net : NetworkInfo) (strategy : SubsetHandlingStrategy) (encrypted : Bool) (v₀ d₀ v d t : ℕ → Option ℕ) (w : List ℕ) (who : Option ℕ) (u : Tape) (done : Bool)

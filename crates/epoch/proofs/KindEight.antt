@@ -23,6 +23,7 @@ use Rattle.subset.specs.Words.{status_at, decided_at, accepted_at, count_at, pro
 use Rattle.subset.specs.Subset.{propose as propose_subset, handle_message as handle_subset}
 use Rattle.subset.specs.Rule.{is_over}
 use Rattle.steps.proofs.AfterRun.{Afterwards, after_map, after_cond, after_onward, after_inside, Reads, after_ask, after_about, after_with, after_both, after_any}
+use Rattle.steps.proofs.Ranges.{Any}
 use Rattle.proposal.proofs.TakenByProposal.{output_of}
 use Rattle.subset.proofs.Invariant.{Held}
 use Rattle.subset.proofs.TakenByCall.{Called}
@@ -31,7 +32,7 @@ use Rattle.epochwords.specs.declared.SubsetHandlingStrategy.TheVariants.{Increme
 use Rattle.epoch.specs.declared.MessageContent.{MessageContent}
 use Rattle.epoch.specs.declared.MessageContent.TheVariants.{Subset, DecryptionShare}
 use Rattle.epochwords.specs.Words.{is_accepted, DecryptionState, missing, complete, load_entry, store_decryption}
-use Rattle.epoch.proofs.QuietRuns.{Orderly, Any, quiet_fault, orders, ordering}
+use Rattle.epoch.proofs.QuietRuns.{Orderly, quiet_fault, orders, ordering}
 use Rattle.epoch.proofs.Walk.{Entries, Finishes, entry_keeps, share_message_keeps, finish_keeps}
 use Rattle.epoch.specs.Epoch.{first_contributions, handles_now, subset_complete, proposal_dropped, entry_after, call_entry, input_ciphertext, send_decryption_share, handle_decryption_share, finish_from, handle_contribution, handle_from, handle_contributions, process_subset, call_subset, propose, handle_message_content}
 use Rattle.epoch.proofs.Interface.{share_of, CallTold}

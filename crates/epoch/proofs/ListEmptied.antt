@@ -9,6 +9,7 @@ use lib.ListN.{replicate, length, get_or, set, get_or-eq_default}
 use lib.Seq.{get_or-set_same, get_or-set_other, set_out}
 use lib.Dec.{eqb, ltb}
 use borrow.Author.Tests.{ltb-true, ltb-false}
+use Rattle.std.proofs.lemmas.Bool.{cond_both}
 use Rattle.network.specs.declared.network_info.NetworkInfo.{NetworkInfo}
 use Rattle.steps.specs.Answers.{Tape, ask}
 use Rattle.steps.specs.Runs.{Verdict, going, refused, failed, Run, onward_as, onward, inside}
@@ -23,7 +24,7 @@ use Rattle.epochwords.specs.Words.{is_complete, DecryptionState, store_decryptio
 use Rattle.epoch.specs.Epoch.{first_contributions, handles_now, subset_complete, proposal_dropped, finish_from, handle_contributions, process_subset, handed_up, call_subset, propose, handle_message_content}
 use Rattle.epochwords.proofs.EntryStored.{store_low}
 use Rattle.steps.proofs.StateKept.{keeps_heard, keeps_onward, still}
-use Rattle.steps.proofs.Logic.{permits_anything, either}
+use Rattle.steps.proofs.Logic.{permits_anything}
 use Rattle.decryption.proofs.Walk.{any_combines}
 use Rattle.epoch.proofs.Walk.{entries_hold, finishes_hold, share_message_keeps, finish_keeps}
 
@@ -75,11 +76,11 @@ module _ (net : NetworkInfo) where
     unfolding process_subset handles_now handle_contributions
     subset_none done w u =
         keeps_onward NoneKept (handle_contributions net Incremental encrypted w u) _ (none_first n _) (λ _ w q k.
-        either NoneAfter done _ _ (λ _. finish_none _ q (done_none w k)) (λ _. k))
+        cond_both done _ _ NoneAfter (λ _. finish_none _ q (done_none w k)) (λ _. k))
 
     call_none : (call : List ℕ → Tape → Run (List ℕ) Bool) (w : List ℕ) (u : Tape) → NoneKept w → NoneKept (call_subset net Incremental encrypted call w u).state
     unfolding call_subset handed_up onward onward_as
-    call_none call w u h = either NoneAfter (is_complete w) _ _ (λ _. h) (λ _. go (call w u).verdict refl)
+    call_none call w u h = cond_both (is_complete w) _ _ NoneAfter (λ _. h) (λ _. go (call w u).verdict refl)
       where
         cut : (r : Run (List ℕ) Bool) → NoneKept (first_contributions n (count_of w) r.state)
         cut r = rw h (none_first n r.state)
@@ -92,7 +93,7 @@ module _ (net : NetworkInfo) where
     -- THE EPOCH'S TWO CALLS
     pub propose_none : (w : List ℕ) (u : Tape) → NoneKept w → NoneKept (propose net Incremental encrypted w u).state
     unfolding propose
-    propose_none w u h = keeps_heard NoneKept (ask u 2) w _ (λ a b z. either NoneAfter (eqb a 0) _ _ (λ _. h) (λ _. call_none _ w z h)) h
+    propose_none w u h = keeps_heard NoneKept (ask u 2) w _ (λ a b z. cond_both (eqb a 0) _ _ NoneAfter (λ _. h) (λ _. call_none _ w z h)) h
 
     pub content_none : (sender p : ℕ) (content : MessageContent) (w : List ℕ) (u : Tape) → NoneKept w → NoneKept (handle_message_content net Incremental encrypted sender p content w u).state
     unfolding handle_message_content

@@ -12,6 +12,7 @@ use lib.Seq.{get_or-set_other}
 use lib.Dec.{eqb}
 use borrow.Author.Tests.{eqb-true, eq-eqb, ne_eqb}
 use lib.Count.{ones}
+use Rattle.std.proofs.Math.Bool.{and-false}
 use Rattle.network.specs.declared.network_info.NetworkInfo.{NetworkInfo}
 use Rattle.steps.specs.Answers.{Rec, Tape, tape, ask_for, ask_about}
 use Rattle.steps.specs.Steps.{Entry, fault}
@@ -231,10 +232,6 @@ module _ (net : NetworkInfo) (encrypted : Bool) (w : List ℕ) (u : Tape) where
       (λ _ w q. finish_from net net.num_nodes 0 (subset_complete w) q)
   unfolding process_subset handles_now
   all_at_done = ap (λ (r : Run (List ℕ) (Unit {0})). onward r (λ _ w q. finish_from net net.num_nodes 0 (subset_complete w) q)) (contributions_in_order net AllAtEnd encrypted w u)
-
-and-false : (x : Bool) → x && false ≡ false
-and-false true = refl
-and-false false = refl
 
 -- A CIPHERTEXT THAT DOES NOT READ OR VERIFY "gives fault 3 or 4; the proposer counts as accepted and its epoch waits."
 module _ (net : NetworkInfo) (strategy : SubsetHandlingStrategy) (p value i : ℕ) (w : List ℕ) where

@@ -8,10 +8,10 @@ use mathlib.Core.Bool.{Bool, true, false, cond}
 use Rattle.std.specs.Prelude.{Option, None, Some}
 use lib.Dec.{leb, eqb}
 use borrow.Author.Tests.{eqb-true, eqb-false, ne_eqb, leb-true}
+use Rattle.std.proofs.lemmas.Bool.{and_parts}
 use Rattle.network.specs.declared.network_info.NetworkInfo.{NetworkInfo}
 use Rattle.steps.specs.Answers.{Rec, Tape}
 use Rattle.steps.specs.Taken.{or_else, concerned_after, concerns, first_decrypted}
-use Rattle.steps.proofs.ChainLaws.{and-true}
 use Rattle.steps.proofs.ReadByKinds.{Past, past_one}
 use Rattle.decryption.specs.declared.ThresholdDecrypt.{ThresholdDecrypt}
 use Rattle.decryption.specs.Decrypt.{handle_message as handle_share}
@@ -116,8 +116,8 @@ inputs = record {
 }
   where
     other : (m k : ℕ) → (m < 9) ⊎ (11 < m) → within 9 11 k ≡ true → eqb k m ≡ false
-    other m k (inl l) e = ne_eqb k m (λ z. omega (arith, leb-true 9 k (and-true (leb 9 k) (leb k 11) e).0))
-    other m k (inr l) e = ne_eqb k m (λ z. omega (arith, leb-true k 11 (and-true (leb 9 k) (leb k 11) e).1))
+    other m k (inl l) e = ne_eqb k m (λ z. omega (arith, leb-true 9 k (and_parts (leb 9 k) (leb k 11) e).0))
+    other m k (inr l) e = ne_eqb k m (λ z. omega (arith, leb-true k 11 (and_parts (leb 9 k) (leb k 11) e).1))
 
 -- what a run has read
 pub record Ran (ws : List Rec) (o : Option ℕ) (r : List Rec) : Type 0 where

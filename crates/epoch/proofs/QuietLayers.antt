@@ -2,13 +2,16 @@
 use Prim.Native.Nat.{ℕ, ◌+◌, ◌<◌, ◌≤◌}
 use mathlib.Core.Path.{◌≡◌, refl, ◌∙◌}
 use mathlib.Core.List.{List}
-use mathlib.Core.Bool.{Bool, true, false, cond, ◌&&◌, ◌||◌}
+use mathlib.Core.Bool.{Bool, true, false, cond, ◌||◌}
 use Rattle.std.specs.Prelude.{Option, None, Some}
 use native.Mathlib.Omega.{arith}
 use lib.ListN.{get_or, set}
 use lib.Seq.{get_or-set_other}
 use lib.Dec.{leb, ltb, eqb}
 use borrow.Author.Tests.{leb-true, le-leb, ne_eqb, lt-leb}
+use Rattle.std.proofs.lemmas.Bool.{and_parts, or_right, or_cases}
+use Rattle.std.proofs.Math.Bool.{and-false}
+use mathlib.Core.Logic.{⊎_elim}
 use Rattle.steps.specs.declared.reader.Content.{Content}
 use Rattle.network.specs.declared.network_info.NetworkInfo.{NetworkInfo}
 use Rattle.steps.specs.Answers.{Rec, Tape}
@@ -16,10 +19,10 @@ use Rattle.steps.specs.Table.{within}
 use Rattle.steps.specs.Runs.{Run}
 use Rattle.steps.specs.Parts.{is_part}
 use Rattle.steps.specs.Taken.{of_value, of_decision}
-use Rattle.steps.proofs.ChainLaws.{and-true}
 use Rattle.steps.proofs.ReadByKinds.{Past, Others}
 use Rattle.steps.proofs.TimesAsked.{past_more}
 use Rattle.steps.proofs.ReadsFirstPart.{any_kind}
+use Rattle.steps.proofs.Ranges.{Any}
 use Rattle.decryption.specs.declared.ThresholdDecrypt.{ThresholdDecrypt}
 use Rattle.decryption.specs.Decrypt.{handle_message as handle_share}
 use Rattle.proposal.specs.declared.ProposalState.{ProposalState}
@@ -33,7 +36,7 @@ use Rattle.epoch.proofs.Interface.{Quiet}
 use Rattle.epoch.proofs.Walk.{Inputs, Rules, any_rules, input_keeps, propose_keeps, content_keeps}
 use Rattle.decryption.proofs.Walk.{not_five, handle_keeps as share_keeps}
 use Rattle.subset.proofs.Walk.{Rules as Subsets, propose_keeps as propose_subset_keeps, handle_keeps as handle_subset_keeps}
-use Rattle.epoch.proofs.QuietRuns.{quiet_message, quiet_fault, Orderly, Any, orderly_inside, orders, ordering, ordering_stateless, orders_permit}
+use Rattle.epoch.proofs.QuietRuns.{quiet_message, quiet_fault, Orderly, orderly_inside, orders, ordering, ordering_stateless, orders_permit}
 
 -- THE KINDS that the subset reads, and those that decrypting a contribution reads
 abbrev pub subset_kinds : ℕ → Bool
@@ -46,22 +49,15 @@ decryption_kinds k = within 8 12 k
 abbrev pub entry_kinds : ℕ → Bool
 entry_kinds k = within 9 12 k
 
-or_part : (x y : Bool) → y ≡ true → x || y ≡ true
-or_part true y e = refl
-or_part false y e = e
-
-or_cases : (x y z : Bool) → (x ≡ true → z ≡ false) → (y ≡ true → z ≡ false) → x || y ≡ true → z ≡ false
-or_cases true y z f g e = f refl
-or_cases false y z f g e = g e
-
 -- the subset reads neither 8 nor 12 nor 13
 module _ (m : ℕ) (low : 7 < m) (high : m < 16) where
   subset_others : Others subset_kinds (λ k. eqb k m)
   unfolding is_part
   subset_others k e =
-      or_cases (within 3 7 k) (is_part k) (eqb k m)
-      (λ t. ne_eqb k m (λ z. omega (arith, leb-true k 7 (and-true (leb 3 k) (leb k 7) t).1)))
-      (λ t. ne_eqb k m (λ z. omega (arith, leb-true 16 k (and-true (leb 16 k) (leb k 18) t).0))) e
+      ⊎_elim
+      (λ t. ne_eqb k m (λ z. omega (arith, leb-true k 7 (and_parts (leb 3 k) (leb k 7) t).1)))
+      (λ t. ne_eqb k m (λ z. omega (arith, leb-true 16 k (and_parts (leb 16 k) (leb k 18) t).0)))
+      (or_cases (within 3 7 k) (is_part k) e)
 
 pub subset_eight : Others subset_kinds (λ k. eqb k 8)
 subset_eight = subset_others 8 (omega arith) (omega arith)
@@ -73,12 +69,8 @@ pub subset_thirteen : Others subset_kinds (λ k. eqb k 13)
 subset_thirteen = subset_others 13 (omega arith) (omega arith)
 
 -- decrypting reads no answer of an instance, and no 13
-and_no : (x : Bool) → x && false ≡ false
-and_no true = refl
-and_no false = refl
-
 decryption_low : (lo hi : ℕ) → hi < 8 → Others decryption_kinds (within lo hi)
-decryption_low lo hi l k e = rw (lt-leb k hi (omega (arith, leb-true 8 k (and-true (leb 8 k) (leb k 12) e).0))) (and_no (leb lo k))
+decryption_low lo hi l k e = rw (lt-leb k hi (omega (arith, leb-true 8 k (and_parts (leb 8 k) (leb k 12) e).0))) (and-false (leb lo k))
 
 pub decryption_value : Others decryption_kinds of_value
 decryption_value = decryption_low 3 4 (omega arith)
@@ -90,20 +82,20 @@ pub decryption_subset : Others decryption_kinds (within 3 7)
 decryption_subset = decryption_low 3 7 (omega arith)
 
 pub decryption_thirteen : Others decryption_kinds (λ k. eqb k 13)
-decryption_thirteen k e = ne_eqb k 13 (λ z. omega (arith, leb-true k 12 (and-true (leb 8 k) (leb k 12) e).1))
+decryption_thirteen k e = ne_eqb k 13 (λ z. omega (arith, leb-true k 12 (and_parts (leb 8 k) (leb k 12) e).1))
 
 pub entry_eight : Others entry_kinds (λ k. eqb k 8)
-entry_eight k e = ne_eqb k 8 (λ z. omega (arith, leb-true 9 k (and-true (leb 9 k) (leb k 12) e).0))
+entry_eight k e = ne_eqb k 8 (λ z. omega (arith, leb-true 9 k (and_parts (leb 9 k) (leb k 12) e).0))
 
 within_wider : (lo mid hi k : ℕ) → mid ≤ hi → within lo mid k ≡ true → within lo hi k ≡ true
 within_wider lo mid hi k l e =
-    let two = and-true (leb lo k) (leb k mid) e in
+    let two = and_parts (leb lo k) (leb k mid) e in
     rw (two.0, le-leb k hi (omega (arith, leb-true k mid two.1)))
 
 pub entry_past : {ws r : List Rec} → Past entry_kinds ws r → Past decryption_kinds ws r
 entry_past p =
     past_more entry_kinds decryption_kinds (λ k e.
-    let two = and-true (leb 9 k) (leb k 12) e in
+    let two = and_parts (leb 9 k) (leb k 12) e in
     rw (le-leb 8 k (omega (arith, leb-true 9 k two.0)), two.1)) p
 
 -- THE WORDS THAT ARE NOT THE SUBSET'S
@@ -163,7 +155,7 @@ module _ (n : ℕ) (w₀ w : List ℕ) (f : Frame n w₀ w) where
 
 -- THE SUBSET
 parts_kinds : (k : ℕ) → is_part k ≡ true → subset_kinds k ≡ true
-parts_kinds k e = or_part (within 3 7 k) (is_part k) e
+parts_kinds k e = or_right (within 3 7 k) (is_part k) e
 
 module _ (n : ℕ) (w₀ : List ℕ) where
   subset_rules : Subsets (orders subset_kinds) (ordering subset_kinds Any) (ordering subset_kinds (Frame n w₀)) n

@@ -1,7 +1,7 @@
 -- Runs that have read answers of certain kinds only, whose log has no outputs and no faults 5, and whose state has a property. Assumes nothing.
 use Rattle.std.specs.Prelude.{Option, None}
 use Prim.Native.Nat.{ℕ}
-use mathlib.Core.Path.{◌≡◌, refl, sym, ap}
+use mathlib.Core.Path.{◌≡◌, refl, sym}
 use mathlib.Core.List.{List, [], ◌∷◌, ◌++◌, append_assoc}
 use mathlib.Core.Bool.{Bool, true, false, cond}
 use lib.Dec.{eqb}
@@ -10,31 +10,19 @@ use Rattle.steps.specs.declared.reader.Content.TheVariants.{Broadcast, Agreement
 use Rattle.steps.specs.Answers.{Answer}
 use Rattle.steps.specs.Answers.{Got, Refused}
 use Rattle.steps.specs.Answers.{Rec, Tape, Asked, ask, ask_about}
-use Rattle.steps.specs.Steps.{Entry, message, fault, output, Item, item, faults, outputs}
+use Rattle.steps.specs.Steps.{Entry, message, fault, Item, faults, outputs}
 use Rattle.steps.specs.Runs.{Verdict, going, refused, failed, Run, ends, before, onward_as, onward, heard_as, heard, inside}
 use Rattle.steps.specs.Parts.{is_part, message_kind, fault_kind, part_entries, last_output, parts_from, read_parts}
 use Rattle.steps.proofs.Parts.{parts_on, parts_off}
 use Rattle.steps.proofs.ReadByKinds.{Past, past_same, past_then, past_ask, past_about, past_parts_lem}
 use Rattle.steps.proofs.ReadsFirstPart.{any_kind}
 use Rattle.steps.proofs.Logic.{Terms, Permits, Logic, Stateless}
+use Rattle.steps.proofs.Ranges.{Any}
+use Rattle.steps.proofs.GivenWithLog.{outputs_append, faults_append}
 use Rattle.epoch.proofs.Interface.{fives_among, Quiet}
 
 -- LOGS
-outputs_append : (a b : List Entry) → outputs (a ++ b) ≡ outputs a ++ outputs b
-unfolding outputs
-outputs_append [] b = refl
-outputs_append (message k x y ∷ a) b = outputs_append a b
-outputs_append (fault k x y ∷ a) b = outputs_append a b
-outputs_append (output k x y ∷ a) b = ap (λ l. item k x y ∷ l) (outputs_append a b)
-
-faults_append : (a b : List Entry) → faults (a ++ b) ≡ faults a ++ faults b
-unfolding faults
-faults_append [] b = refl
-faults_append (message k x y ∷ a) b = faults_append a b
-faults_append (fault k x y ∷ a) b = ap (λ l. item k x y ∷ l) (faults_append a b)
-faults_append (output k x y ∷ a) b = faults_append a b
-
-fives_append : (a b : List Item) → fives_among (a ++ b) ≡ fives_among a ++ fives_among b
+pub fives_append : (a b : List Item) → fives_among (a ++ b) ≡ fives_among a ++ fives_among b
 unfolding fives_among
 fives_append [] b = refl
 fives_append (x ∷ a) b = rw (fives_append a b) (sym (append_assoc (cond (eqb x.kind 5) (x.a ∷ []) []) (fives_among a) (fives_among b)))
@@ -70,7 +58,7 @@ quiet_part content proposer kind a b = go (eqb kind 16) (eqb kind 17)
     go false true = quiet_fault (fault_kind content) a b (other content)
     go false false = quiet_none
 
-quiet_parts : (content : Content) (proposer : ℕ) (o : (Option ℕ)) (i : ℕ) (l : List Rec) → Quiet (parts_from content proposer o i l).log
+quiet_parts : (content : Content) (proposer : ℕ) (o : Option ℕ) (i : ℕ) (l : List Rec) → Quiet (parts_from content proposer o i l).log
 unfolding parts_from
 quiet_parts content proposer o i [] = quiet_none
 quiet_parts content proposer o i (r ∷ rs) = go (is_part r.kind) refl (quiet_parts content proposer (last_output o r.kind r.b) r.next rs)
@@ -84,10 +72,6 @@ pub record Orderly {S A : Type 0} (P : S → Type 0) (is : ℕ → Bool) (p : Ta
   pub state : P r.state
   pub past : Past is p.rest r.tape.rest
   pub quiet : Quiet r.log
-
--- a state of which nothing is said
-abbrev pub Any : {S : Type 0} → S → Type 0
-Any s = Unit {0}
 
 module _ {S A : Type 0} {P : S → Type 0} {is : ℕ → Bool} where
   pub orderly_ends : {v : Verdict A} {s : S} {p : Tape} → P s → Orderly P is p (ends v s p)

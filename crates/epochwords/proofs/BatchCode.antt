@@ -16,10 +16,6 @@ use Rattle.epochwords.specs.Words.{is_accepted, is_settled, decryption_in, plain
 use Rattle.epochwords.specs.Batch.{decrypted_from, read_at, read_from, entries_from}
 use Rattle.epochwords.proofs.Readable.{entries_ones}
 
--- before the first turn of a loop, n are left
-pub all_left : (n : ℕ) → n - 0 ≡ n
-all_left n = omega arith
-
 module _ (size n p : ℕ) (w : List ℕ) where
   -- READY: one proposer more, who is awaited or not
   module _ (l : p < n) where

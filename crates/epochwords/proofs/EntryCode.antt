@@ -16,10 +16,6 @@ use Rattle.decryption.specs.declared.ThresholdDecrypt.{ThresholdDecrypt}
 use Rattle.decryption.specs.Decrypt.{new}
 use Rattle.epochwords.specs.Words.{missing, ongoing, complete, decryption_at, plaintext_at, share_at, shares_from, asks, load_instance, load_entry, load_decryption, set_shares, flag}
 
--- before the first turn of a loop, n are left
-pub all_left : (n : ℕ) → n - 0 ≡ n
-all_left n = omega arith
-
 -- PLACES. A word of a record is inside, and the words of an epoch are few
 pub within_record : (n p j : ℕ) → p < n → j < 8 + n → record_at n p j < epoch_length n
 within_record n p j h l = omega (arith, mul-le-mul_right (8 + n) h, suc-mul p (8 + n))

@@ -8,9 +8,9 @@ use native.Mathlib.Nat.{div-add-mod', mod-lt, div-lt_iff_lt-mul, zero-add}
 use lib.ListN.{length, get_or, replicate, length-append, length-replicate, get_or-eq_default}
 use lib.Dec.{leb, ltb, eqb}
 use borrow.Author.Tests.{eqb-true, leb-true, ltb-true, ltb-false, eq-eqb, le-leb, lt-ltb}
+use Rattle.std.proofs.lemmas.Bool.{and_parts, and_from}
 use Rattle.steps.proofs.BitLaws.{with_below}
-use Rattle.steps.proofs.ChainLaws.{and-true}
-use Rattle.steps.proofs.Ranges.{and_both, Below, zeros_at}
+use Rattle.steps.proofs.Ranges.{Below, zeros_at}
 use Rattle.decryption.specs.declared.ThresholdDecrypt.{ThresholdDecrypt}
 use Rattle.decryption.specs.Decrypt.{new}
 use Rattle.decryption.proofs.Ranges.{handles, InstanceOk, new_ok}
@@ -99,16 +99,16 @@ leb_below a b e = omega (arith, leb-true a b e)
 pub all_at : (is : ℕ → Bool) (m i : ℕ) (w : List ℕ) → all_from is m i w ≡ true → (k : ℕ) → k < m → is (get_or w (i + k) 0) ≡ true
 unfolding all_from
 all_at is zero i w e k l = absurd (omega arith)
-all_at is (suc m) i w e zero l = let z : i + 0 ≡ i = omega arith in rw z (and-true (is (get_or w i 0)) _ e).0
+all_at is (suc m) i w e zero l = let z : i + 0 ≡ i = omega arith in rw z (and_parts (is (get_or w i 0)) _ e).0
 all_at is (suc m) i w e (suc k) l =
     let z : i + suc k ≡ (i + 1) + k = omega arith in
-    rw z (all_at is m (i + 1) w (and-true (is (get_or w i 0)) _ e).1 k (omega arith))
+    rw z (all_at is m (i + 1) w (and_parts (is (get_or w i 0)) _ e).1 k (omega arith))
 
 pub all_every : (is : ℕ → Bool) (m i : ℕ) (w : List ℕ) → ((k : ℕ) → k < m → is (get_or w (i + k) 0) ≡ true) → all_from is m i w ≡ true
 unfolding all_from
 all_every is zero i w f = refl
 all_every is (suc m) i w f =
-    and_both _ _ (let z : i + 0 ≡ i = omega arith in rw z at (f 0 (omega arith)))
+    and_from _ _ (let z : i + 0 ≡ i = omega arith in rw z at (f 0 (omega arith)))
     (all_every is m (i + 1) w (λ k l. let z : i + suc k ≡ (i + 1) + k = omega arith in rw z at (f (suc k) (omega arith))))
 
 -- of a record
@@ -132,14 +132,14 @@ module _ (n : ℕ) (w : List ℕ) (p : ℕ) where
   pub record_below : record_in_range n w p ≡ true → (j : ℕ) → j < record_length n → get_or w (record_at n p j) 0 < field_limit n j
   unfolding record_in_range
   record_below e =
-      let e8 = and-true _ _ e in
-      let e7 = and-true _ _ e8.0 in
-      let e6 = and-true _ _ e7.0 in
-      let e5 = and-true _ _ e6.0 in
-      let e4 = and-true _ _ e5.0 in
-      let e3 = and-true _ _ e4.0 in
-      let e2 = and-true _ _ e3.0 in
-      let e1 = and-true _ _ e2.0 in
+      let e8 = and_parts _ _ e in
+      let e7 = and_parts _ _ e8.0 in
+      let e6 = and_parts _ _ e7.0 in
+      let e5 = and_parts _ _ e6.0 in
+      let e4 = and_parts _ _ e5.0 in
+      let e3 = and_parts _ _ e4.0 in
+      let e2 = and_parts _ _ e3.0 in
+      let e1 = and_parts _ _ e2.0 in
       by_field
       (leb_below _ 4 e1.0)
       (ltb-true _ _ e1.1)
@@ -154,7 +154,7 @@ module _ (n : ℕ) (w : List ℕ) (p : ℕ) where
   record_in : EpochOk n w → record_in_range n w p ≡ true
   unfolding record_in_range
   record_in h =
-      and_both _ _ (and_both _ _ (and_both _ _ (and_both _ _ (and_both _ _ (and_both _ _ (and_both _ _ (and_both _ _
+      and_from _ _ (and_from _ _ (and_from _ _ (and_from _ _ (and_from _ _ (and_from _ _ (and_from _ _ (and_from _ _
       (le-leb (get_or w (proposal_at n p) 0) 4 (omega (arith, field_below n w p 0 h (omega arith))))
       (lt-ltb _ _ (field_below n w p 1 h (omega arith))))
       (le-leb (get_or w (decryption_at n p) 0) 2 (omega (arith, field_below n w p 2 h (omega arith)))))
@@ -174,15 +174,15 @@ module _ (n : ℕ) (w : List ℕ) (p : ℕ) where
 records_at_lem : (n m p : ℕ) (w : List ℕ) → records_in_range n m p w ≡ true → (k : ℕ) → k < m → record_in_range n w (p + k) ≡ true
 unfolding records_in_range
 records_at_lem n zero p w e k l = absurd (omega arith)
-records_at_lem n (suc m) p w e zero l = let z : p + 0 ≡ p = omega arith in rw z (and-true (record_in_range n w p) _ e).0
+records_at_lem n (suc m) p w e zero l = let z : p + 0 ≡ p = omega arith in rw z (and_parts (record_in_range n w p) _ e).0
 records_at_lem n (suc m) p w e (suc k) l =
     let z : p + suc k ≡ (p + 1) + k = omega arith in
-    rw z (records_at_lem n m (p + 1) w (and-true (record_in_range n w p) _ e).1 k (omega arith))
+    rw z (records_at_lem n m (p + 1) w (and_parts (record_in_range n w p) _ e).1 k (omega arith))
 
 records_in : (n m p : ℕ) (w : List ℕ) → EpochOk n w → records_in_range n m p w ≡ true
 unfolding records_in_range
 records_in n zero p w h = refl
-records_in n (suc m) p w h = and_both _ _ (record_in n w p h) (records_in n m (p + 1) w h)
+records_in n (suc m) p w h = and_from _ _ (record_in n w p h) (records_in n m (p + 1) w h)
 
 -- no list is longer than there are proposers
 pub most_kept_lem : (strategy : SubsetHandlingStrategy) (n : ℕ) → most_kept strategy n ≤ n
@@ -217,11 +217,11 @@ module _ (n : ℕ) (w : List ℕ) where
   pub epoch_below : (strategy : SubsetHandlingStrategy) → 0 < n → length w ≡ epoch_length n → epoch_in_range strategy n w ≡ true → EpochOk n w
   unfolding epoch_in_range
   epoch_below strategy some long e =
-      let e5 = and-true _ _ e in
-      let e4 = and-true _ _ e5.0 in
-      let e3 = and-true _ _ e4.0 in
-      let e2 = and-true _ _ e3.0 in
-      let e1 = and-true _ _ e2.0 in
+      let e5 = and_parts _ _ e in
+      let e4 = and_parts _ _ e5.0 in
+      let e3 = and_parts _ _ e4.0 in
+      let e2 = and_parts _ _ e3.0 in
+      let e1 = and_parts _ _ e2.0 in
       record {
         long = long;
         below = λ i. go
@@ -245,12 +245,12 @@ module _ (n : ℕ) (w : List ℕ) where
   epoch_keeps strategy e =
       let three = leb (status_of w) status_complete && leb (get_or w decided_at 0) 1 && ltb (accepted_of w) (2 ^ n) in
       let four = three && leb (count_of w) (most_kept strategy n) in
-      leb-true (count_of w) (most_kept strategy n) (and-true three _ (and-true four _ (and-true (four && all_from (λ x. eqb x 0) 12 4 w) _ e).0).0).1
+      leb-true (count_of w) (most_kept strategy n) (and_parts three _ (and_parts four _ (and_parts (four && all_from (λ x. eqb x 0) 12 4 w) _ e).0).0).1
 
   pub epoch_in : (strategy : SubsetHandlingStrategy) → EpochOk n w → count_of w ≤ most_kept strategy n → epoch_in_range strategy n w ≡ true
   unfolding epoch_in_range limit_at
   epoch_in strategy h k =
-      and_both _ _ (and_both _ _ (and_both _ _ (and_both _ _ (and_both _ _
+      and_from _ _ (and_from _ _ (and_from _ _ (and_from _ _ (and_from _ _
       (le-leb (get_or w status_at 0) 2 (omega (arith, h.below 0)))
       (le-leb (get_or w decided_at 0) 1 (omega (arith, h.below 1))))
       (lt-ltb _ _ (h.below 2)))

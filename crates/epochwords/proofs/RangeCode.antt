@@ -10,8 +10,8 @@ use lib.Seq.{length-take-le, get_or-take, get_or-drop}
 use lib.Dec.{eqb, leb, ltb}
 use lib.Bits.{bit_or, or_lt, or_add_and, and_le_l, and_le_r}
 use borrow.Author.Tests.{le-leb, lt-ltb, le-ltb, ltb-true, ltb-false, eq-eqb, eqb-true, ne_eqb}
-use Rattle.steps.proofs.ChainLaws.{and-true as parts, same_tests}
-use Rattle.steps.proofs.Ranges.{and_both}
+use Rattle.std.proofs.lemmas.Bool.{and_parts as parts, and_from}
+use Rattle.std.specs.Cmp.{both_ways}
 use Rattle.subset.specs.Words.{record_length, record_at, epoch_length, tag_complete_true, status_of, status_complete, decided_at, accepted_of, count_of}
 use Rattle.subset.proofs.Ranges.{field_limit}
 use Rattle.epochwords.specs.declared.SubsetHandlingStrategy.{SubsetHandlingStrategy}
@@ -124,8 +124,8 @@ module _ (n : ℕ) (w : List ℕ) (p : ℕ) where
   both_of : n ≤ 16 → record_in_range n w p ≡ true → handles && small_in_range n w p ≡ true
   unfolding small_in_range
   both_of few e =
-      and_both _ _ (all_every maybe_handle (record_length n) (record_at n p 0) w (λ j l. lt-ltb _ _ (below j l)))
-      (and_both _ _ (and_both _ _ (and_both _ _ (and_both _ _
+      and_from _ _ (all_every maybe_handle (record_length n) (record_at n p 0) w (λ j l. lt-ltb _ _ (below j l)))
+      (and_from _ _ (and_from _ _ (and_from _ _ (and_from _ _
       (le-leb (field 0) 4 (omega (arith, record_below n w p e 0 (omega arith))))
       (le-leb (field 2) 2 (omega (arith, record_below n w p e 2 (omega arith)))))
       (le-leb (field 5) 1 (omega (arith, record_below n w p e 5 (omega arith)))))
@@ -142,7 +142,7 @@ module _ (n : ℕ) (w : List ℕ) (p : ℕ) where
   of_both e =
       let e = parts handles (small_in_range n w p) e in
       let s = all_five (leb (field 0) tag_complete_true) (leb (field 2) entry_complete) (leb (field 5) 1) (leb (field 6) 1) (ltb (field 7) n) e.1 in
-      and_both _ _ (and_both _ _ (and_both _ _ (and_both _ _ (and_both _ _ (and_both _ _ (and_both _ _ (and_both _ _
+      and_from _ _ (and_from _ _ (and_from _ _ (and_from _ _ (and_from _ _ (and_from _ _ (and_from _ _ (and_from _ _
       s.0 (word e.0 1 (omega arith))) s.1) (word e.0 3 (omega arith))) (word e.0 4 (omega arith))) s.2) s.3) s.4)
       (all_every maybe_handle n (record_at n p 8) w
       (λ k l. let z : record_at n p 8 + k ≡ record_at n p (8 + k) = omega arith in rw z (word e.0 (8 + k) (omega arith))))
@@ -153,7 +153,7 @@ module _ (n : ℕ) (w : List ℕ) (p : ℕ) where
           rw z at (all_at maybe_handle (record_length n) (record_at n p 0) w h j l)
 
   record_both : n ≤ 16 → record_in_range n w p ≡ (handles && small_in_range n w p)
-  record_both few = same_tests _ _ (both_of few) of_both
+  record_both few = both_ways _ _ (both_of few) of_both
 
 -- RECORDS: the small words of the next m, from p on
 unfoldable pub smalls_in_range : ℕ → ℕ → ℕ → List ℕ → Bool

@@ -8,6 +8,7 @@ use Rattle.std.specs.Prelude.{Option, None, Some}
 use native.Mathlib.Omega.{arith}
 use lib.Dec.{eqb}
 use borrow.Author.Tests.{eqb-true, eqb-false, ne_eqb}
+use Rattle.std.proofs.lemmas.Bool.{and_parts}
 use Rattle.steps.specs.declared.reader.Content.{Content}
 use Rattle.steps.specs.declared.reader.Content.TheVariants.{Broadcast, Agreement}
 use Rattle.steps.specs.Answers.{Got, Refused}
@@ -16,8 +17,7 @@ use Rattle.steps.specs.Answers.{Rec, Tape, tape, asked, ask_for, ask_about}
 use Rattle.steps.specs.Taken.{or_else, is_there, last_output_in, first_taken, of_value, of_decision, is_asked}
 use Rattle.steps.specs.Parts.{is_part, read_parts, parts_from}
 use Rattle.steps.specs.Runs.{failed, Run, ends, heard_as, heard}
-use Rattle.steps.proofs.ChainLaws.{and-true}
-use Rattle.steps.proofs.TakenFromChain.{or_else_none, Good, option_of, parts_output, parts_rest, NoPart, apart, Bit, Instance, kind6, Heard, heard_answer}
+use Rattle.steps.proofs.TakenFromChain.{or_else_none, Good, parts_output, parts_rest, NoPart, apart, Bit, Instance, kind6, Heard, heard_answer}
 use Rattle.proposal.specs.declared.ProposalState.{ProposalState}
 use Rattle.proposal.specs.declared.ProposalState.TheVariants.{Ongoing, HasValue, Accepted, Complete}
 use Rattle.proposal.specs.Proposal.{moved, after_agreement, after_broadcast, asks_agreement, asks_broadcast, instance_answer, answer_agreement, vote_true, after_value, answer_broadcast}
@@ -41,8 +41,8 @@ output_of (Some v) (Some (suc d)) = Some v
 
 module _ (n error p k : ℕ) (content : Content) (i : Instance k) (s : ProposalState) where
   -- an instance's answer, where there is one
-  pub instance_ok : (u : Tape) → Good n u.rest → Afterwards (instance_answer error p k content s u) (λ out t z. (t ≡ s) × Heard n k p u.rest (option_of out) z.rest)
-  unfolding instance_answer heard heard_as ask_about ask_for option_of
+  pub instance_ok : (u : Tape) → Good n u.rest → Afterwards (instance_answer error p k content s u) (λ out t z. (t ≡ s) × Heard n k p u.rest out z.rest)
+  unfolding instance_answer heard heard_as ask_about ask_for
   instance_ok u g = go u.rest g
     where
       want : Rec → Bool
@@ -52,20 +52,20 @@ module _ (n error p k : ℕ) (content : Content) (i : Instance k) (s : ProposalS
       goes a b q = cond (eqb a 0) (ends (failed error) s q) (read_parts content p s q)
 
       told : (r : Rec) (rs : List Rec) → Good n (r ∷ rs) → want r ≡ true → (x : Bool) → eqb r.a 0 ≡ x
-          → Afterwards (cond x (ends (failed error) s (tape r.next rs)) (read_parts content p s (tape r.next rs))) (λ out t z. (t ≡ s) × Heard n k p (r ∷ rs) (option_of out) z.rest)
+          → Afterwards (cond x (ends (failed error) s (tape r.next rs)) (read_parts content p s (tape r.next rs))) (λ out t z. (t ≡ s) × Heard n k p (r ∷ rs) out z.rest)
       told r rs g w true e = tt
       told r rs g w false e =
-          let both = and-true (eqb r.kind k) (eqb r.b p) w in
+          let both = and_parts (eqb r.kind k) (eqb r.b p) w in
           let h = heard_answer n k p r rs i g (eqb-true _ _ both.0) (eqb-true _ _ both.1) (eqb-false r.a 0 e) in
-          let o : option_of (parts_from content p None r.next rs).output ≡ last_output_in rs = parts_output content p None r.next rs ∙ or_else_none (last_output_in rs) in
+          let o : (parts_from content p None r.next rs).output ≡ last_output_in rs = parts_output content p None r.next rs ∙ or_else_none (last_output_in rs) in
           (refl, rw (o, parts_rest content p None r.next rs) h)
 
       found : (r : Rec) (rs : List Rec) → Good n (r ∷ rs) → (x : Bool) → want r ≡ x
-          → Afterwards (heard (cond x (asked (Got r.a r.b) (tape r.next rs)) (asked Refused u)) s goes) (λ out t z. (t ≡ s) × Heard n k p (r ∷ rs) (option_of out) z.rest)
+          → Afterwards (heard (cond x (asked (Got r.a r.b) (tape r.next rs)) (asked Refused u)) s goes) (λ out t z. (t ≡ s) × Heard n k p (r ∷ rs) out z.rest)
       found r rs g true w = told r rs g w (eqb r.a 0) refl
       found r rs g false w = tt
 
-      go : (l : List Rec) → Good n l → Afterwards (heard (ask_for want u l) s goes) (λ out t z. (t ≡ s) × Heard n k p l (option_of out) z.rest)
+      go : (l : List Rec) → Good n l → Afterwards (heard (ask_for want u l) s goes) (λ out t z. (t ≡ s) × Heard n k p l out z.rest)
       go [] g = tt
       go (r ∷ rs) g = found r rs g (want r) refl
 
@@ -76,8 +76,8 @@ pub record Agreed (n k p : ℕ) (v : Option ℕ) (ws : List Rec) (o : Option ℕ
   pub state : s ≡ state_of v answer
   pub out : o ≡ output_of v answer
 
-agree_move : (v : Option ℕ) (out : (Option ℕ)) → after_agreement (state_of v None) out ≡ moved (state_of v (option_of out)) (output_of v (option_of out))
-unfolding after_agreement option_of
+agree_move : (v : Option ℕ) (out : Option ℕ) → after_agreement (state_of v None) out ≡ moved (state_of v out) (output_of v out)
+unfolding after_agreement
 agree_move None None = refl
 agree_move None (Some zero) = refl
 agree_move None (Some (suc d)) = rw (ne_eqb (suc d) 0 (λ e. omega arith))
@@ -91,7 +91,7 @@ unfolding answer_agreement
 agreement_ok n error p k i v u g =
     after_onward (instance_answer error p k Agreement (state_of v None) u) _ _
     (after_map (instance_answer error p k Agreement (state_of v None) u) _ _ (instance_ok n error p k Agreement i (state_of v None) u g) (λ out t z h.
-    rw (h.0, agree_move v out) (record { answer = option_of out; heard = h.1; state = refl; out = refl })))
+    rw (h.0, agree_move v out) (record { answer = out; heard = h.1; state = refl; out = refl })))
 
 -- A BROADCAST OR AGREEMENT MESSAGE, with the vote 1 that it may bring: what it took for p, by the kinds asked about
 pub record Went (n p : ℕ) (v d : Option ℕ) (ws : List Rec) (o : Option ℕ) (s : ProposalState) (r : List Rec) : Type 0 where
@@ -211,14 +211,14 @@ module _ (n error p k : ℕ) (i : Broadcasts k) where
     good = a.heard.good;
   }
 
-  ongoing_ok : (out : (Option ℕ)) (ws : List Rec) (z : Tape) → Heard n k p ws (option_of out) z.rest → Afterwards (after_value error p Ongoing out z) (λ o s y. Went n p None None ws o s y.rest)
-  unfolding after_value after_broadcast vote_true asks_agreement option_of is_there
+  ongoing_ok : (out : Option ℕ) (ws : List Rec) (z : Tape) → Heard n k p ws out z.rest → Afterwards (after_value error p Ongoing out z) (λ o s y. Went n p None None ws o s y.rest)
+  unfolding after_value after_broadcast vote_true asks_agreement is_there
   ongoing_ok None ws z h = quiet None None ws z.rest (there_zero None refl) h refl
   ongoing_ok (Some x) ws z h =
       after_map (answer_agreement error p 6 (HasValue x) z) _ _ (agreement_ok n error p 6 kind6 (Some x) z h.good) (λ o s y a. voted x ws z.rest y.rest o s h a)
 
-  accepted_ok : (d : ℕ) (out : (Option ℕ)) (ws : List Rec) (z : Tape) → Heard n k p ws (option_of out) z.rest → Afterwards (after_value error p Accepted out z) (λ o s y. Went n p None (Some (suc d)) ws o s y.rest)
-  unfolding after_value after_broadcast vote_true asks_agreement option_of is_there
+  accepted_ok : (d : ℕ) (out : Option ℕ) (ws : List Rec) (z : Tape) → Heard n k p ws out z.rest → Afterwards (after_value error p Accepted out z) (λ o s y. Went n p None (Some (suc d)) ws o s y.rest)
+  unfolding after_value after_broadcast vote_true asks_agreement is_there
   accepted_ok d None ws z h = quiet (Some (suc d)) None ws z.rest (one_zero d (Some (suc d)) refl) h refl
   accepted_ok d (Some y) ws z h = quiet (Some (suc d)) (Some y) ws z.rest (one_zero d (Some (suc d)) refl) h refl
 

@@ -40,7 +40,7 @@ abbrev pub moved : ProposalState → Option ℕ → Moved
 moved s v = record { state = s; value = v }
 
 -- the answer of the agreement instance, already read: "A proposal goes Ongoing, then HasValue or Accepted, then Complete"
-unfoldable pub after_agreement : ProposalState → (Option ℕ) → Moved
+unfoldable pub after_agreement : ProposalState → Option ℕ → Moved
 after_agreement Ongoing None = moved Ongoing None
 after_agreement Ongoing (Some d) = cond (eqb d 0) (moved (Complete false) None) (moved Accepted None)
 after_agreement (HasValue v) None = moved (HasValue v) None
@@ -49,7 +49,7 @@ after_agreement Accepted out = moved Accepted None
 after_agreement (Complete b) out = moved (Complete b) None
 
 -- the answer of the broadcast instance, already read
-unfoldable pub after_broadcast : ProposalState → (Option ℕ) → Moved
+unfoldable pub after_broadcast : ProposalState → Option ℕ → Moved
 after_broadcast Ongoing None = moved Ongoing None
 after_broadcast Ongoing (Some v) = moved (HasValue v) None
 after_broadcast Accepted None = moved Accepted None
@@ -89,7 +89,7 @@ module _ (error p : ℕ) where
   unfoldable pub vote_true : Moved → Tape → Run ProposalState (Option ℕ)
   vote_true m tape = cond (asks_agreement m.state) (answer_agreement propose_true m.state tape) (moved_to m tape)
 
-  unfoldable pub after_value : ProposalState → (Option ℕ) → Tape → Run ProposalState (Option ℕ)
+  unfoldable pub after_value : ProposalState → Option ℕ → Tape → Run ProposalState (Option ℕ)
   after_value s None tape = moved_to (after_broadcast s None) tape
   after_value s (Some v) tape = vote_true (after_broadcast s (Some v)) tape
 

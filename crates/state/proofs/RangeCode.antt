@@ -9,6 +9,7 @@ use lib.ListN.{length, get_or, take, drop}
 use lib.Bits.{bit_or}
 use lib.Dec.{eqb, leb, ltb}
 use borrow.Author.Tests.{leb-true, ltb-true, eq-eqb}
+use Rattle.std.proofs.lemmas.Bool.{false_from_ne_true, and_parts}
 use Rattle.steps.specs.Numbers.{node_limit, ahead_limit}
 use Rattle.subset.specs.Words.{epoch_length}
 use Rattle.epochwords.specs.Shape.{Listed}
@@ -18,16 +19,12 @@ use Rattle.epochwords.proofs.LimitsOfWords.{ok_listed}
 use Rattle.state.specs.Schedule.{schedule_of}
 use Rattle.state.specs.State.{header_length, nodes_at, faulty_at, ahead_at, schedule_at, epoch_at, vacant_at, nodes, faulty, ahead, schedule, first_number, second_number, strategy_of, epochs_at, state_length, epoch_words, all_hold, header_tests, header_in_range, epochs_in_range, state_ok}
 use Rattle.state.specs.Shape.{StateWords, Divides}
-use Rattle.state.proofs.Bools.{and_left, and_right, test_holds}
+use Rattle.state.proofs.Bools.{test_holds}
 use Rattle.state.proofs.Schedules.{ok_divides}
 use Rattle.state.proofs.LengthTable.{lengths}
 use Rattle.state.proofs.Sheet.{OnSheet, entry_of, sheet_right}
 use Rattle.state.proofs.Window.{header_first}
 use Rattle.state.proofs.RangesState.{test, shaped, words_in_range}
-
-not_so : (x : Bool) → (x ≡ true → ⊥) → x ≡ false
-not_so true h = absurd (h refl)
-not_so false h = refl
 
 -- THE HEADER. What its tests say of N, f and the look-ahead
 pub record Sized (w : List ℕ) : Type 0 where
@@ -39,7 +36,7 @@ pub header_sized : (w : List ℕ) → header_in_range w ≡ true → Sized w
 unfolding header_tests
 header_sized w e =
     record {
-      few = leb-true (nodes w) node_limit (and_right (leb 1 (nodes w)) _ (test_holds (header_tests w) e nodes_at));
+      few = leb-true (nodes w) node_limit (and_parts (leb 1 (nodes w)) _ (test_holds (header_tests w) e nodes_at)).1;
       faulty = ltb-true _ _ (test_holds (header_tests w) e faulty_at);
       near = leb-true _ _ (test_holds (header_tests w) e ahead_at);
     }
@@ -50,7 +47,7 @@ module _ (w : List ℕ) where
   large = ltb node_limit (nodes w) || ltb node_limit (faulty w) || ltb ahead_limit (ahead w)
 
   pub header_large : large ≡ true → false ≡ header_in_range w
-  header_large t = sym (not_so (header_in_range w) (λ e. go (header_sized w e) (ltb node_limit (nodes w)) refl (ltb node_limit (faulty w)) refl t))
+  header_large t = sym (false_from_ne_true (header_in_range w) (λ e. go (header_sized w e) (ltb node_limit (nodes w)) refl (ltb node_limit (faulty w)) refl t))
     where
       go : Sized w → (x : Bool) → ltb node_limit (nodes w) ≡ x → (y : Bool) → ltb node_limit (faulty w) ≡ y → x || y || ltb ahead_limit (ahead w) ≡ true → ⊥
       go s true a y b c = omega (arith, s.few, ltb-true node_limit (nodes w) a)
@@ -97,14 +94,14 @@ module _ (w : List ℕ) where
   long_of e = (shaped w e).long
 
   pub ok_short : length w < header_length → false ≡ state_ok w
-  ok_short h = sym (not_so (state_ok w) (λ e. omega (arith, long_of e, header_first (nodes w))))
+  ok_short h = sym (false_from_ne_true (state_ok w) (λ e. omega (arith, long_of e, header_first (nodes w))))
 
   pub ok_header : header_in_range w ≡ false → false ≡ state_ok w
   unfolding state_ok
   ok_header e = rw e
 
   pub ok_length : (length w ≡ state_length (nodes w) (ahead w) → ⊥) → false ≡ state_ok w
-  ok_length h = sym (not_so (state_ok w) (λ e. h (long_of e)))
+  ok_length h = sym (false_from_ne_true (state_ok w) (λ e. h (long_of e)))
 
   pub ok_epochs : header_in_range w ≡ true → length w ≡ state_length (nodes w) (ahead w) → epochs_in_range w (ahead w + 1) (epochs_at (nodes w)) ≡ state_ok w
   unfolding state_ok
@@ -123,7 +120,7 @@ module _ (w : List ℕ) where
   module _ (ok : state_ok w ≡ true) where
     pub ok_on_sheet : OnSheet (nodes w) (ahead w)
     unfolding state_ok
-    ok_on_sheet = header_on_sheet (and_left _ _ (and_left _ _ ok))
+    ok_on_sheet = header_on_sheet (and_parts _ _ (and_parts _ _ ok).0).0
 
     -- "the engine shall take the length from that same table"
     pub ok_by_sheet : length w ≡ get_or lengths (entry_of (nodes w) (ahead w)) 0
@@ -131,7 +128,7 @@ module _ (w : List ℕ) where
 
     pub ok_words : StateWords w
     unfolding state_ok
-    ok_words = header_words (and_left _ _ (and_left _ _ ok)) (long_of ok)
+    ok_words = header_words (and_parts _ _ (and_parts _ _ ok).0).0 (long_of ok)
 
     -- its schedule divides
     pub ok_schedule : Divides (schedule_of (schedule w) (first_number w) (second_number w))

@@ -9,10 +9,10 @@ use lib.ListN.{length, get_or, set, take, drop}
 use lib.Seq.{get_or-set_same, get_or-set_other}
 use lib.Dec.{eqb, leb}
 use borrow.Author.Tests.{eqb-true, eqb-false, leb-true, ltb-true, eq-eqb, le-leb}
+use Rattle.std.proofs.lemmas.Bool.{and_parts, and_from}
 use Rattle.steps.specs.Numbers.{last_epoch, fault_limit}
 use Rattle.network.specs.Network.{Network}
-use Rattle.steps.proofs.ChainLaws.{and-true}
-use Rattle.steps.proofs.Ranges.{and_both, zeros_at, below_zeros}
+use Rattle.steps.proofs.Ranges.{zeros_at, below_zeros}
 use Rattle.subset.specs.Words.{epoch_length, count_at, count_of}
 use Rattle.subset.proofs.Ranges.{limit_at, limit_some, EpochOk}
 use Rattle.epochwords.specs.Words.{most_kept, epoch_in_range}
@@ -29,17 +29,17 @@ module _ (w : List ℕ) where
   epochs_at_lem zero at e k l = absurd (omega arith)
   epochs_at_lem (suc m) at e zero l =
       let z : at + 0 * epoch_length (nodes w) ≡ at = omega arith in
-      rw z (and-true (epoch_in_range (strategy_of w) (nodes w) (take (epoch_length (nodes w)) (drop at w))) _ e).0
+      rw z (and_parts (epoch_in_range (strategy_of w) (nodes w) (take (epoch_length (nodes w)) (drop at w))) _ e).0
   epochs_at_lem (suc m) at e (suc k) l =
       let z : at + suc k * epoch_length (nodes w) ≡ (at + epoch_length (nodes w)) + k * epoch_length (nodes w) = omega (arith, suc-mul k (epoch_length (nodes w))) in
-      rw z (epochs_at_lem m (at + epoch_length (nodes w)) (and-true (epoch_in_range (strategy_of w) (nodes w) (take (epoch_length (nodes w)) (drop at w))) _ e).1 k (omega arith))
+      rw z (epochs_at_lem m (at + epoch_length (nodes w)) (and_parts (epoch_in_range (strategy_of w) (nodes w) (take (epoch_length (nodes w)) (drop at w))) _ e).1 k (omega arith))
 
   epochs_in : (m at : ℕ) → ((k : ℕ) → k < m → epoch_in_range (strategy_of w) (nodes w) (take (epoch_length (nodes w)) (drop (at + k * epoch_length (nodes w)) w)) ≡ true)
       → epochs_in_range w m at ≡ true
   unfolding epochs_in_range
   epochs_in zero at f = refl
   epochs_in (suc m) at f =
-      and_both _ _
+      and_from _ _
       (let z : at + 0 * epoch_length (nodes w) ≡ at = omega arith in rw z at (f 0 (omega arith)))
       (epochs_in m (at + epoch_length (nodes w)) (λ k l.
       let z : at + suc k * epoch_length (nodes w) ≡ (at + epoch_length (nodes w)) + k * epoch_length (nodes w) = omega (arith, suc-mul k (epoch_length (nodes w))) in
@@ -50,7 +50,7 @@ pub ok_by : (w : List ℕ) → header_in_range w ≡ true → length w ≡ state
     → ((e : ℕ) → count_of (epoch_words w e) ≤ most_kept (strategy_of w) (nodes w)) → state_ok w ≡ true
 unfolding state_ok
 ok_by w head long words lists =
-    and_both _ _ (and_both _ _ head (eq-eqb _ _ long)) (epochs_in w (ahead w + 1) (epochs_at (nodes w)) (λ k l.
+    and_from _ _ (and_from _ _ head (eq-eqb _ _ long)) (epochs_in w (ahead w + 1) (epochs_at (nodes w)) (λ k l.
     let e : k % (ahead w + 1) ≡ k = mod-eq_of_lt l in
     let are = words_are (nodes w) (ahead w) w (record { long = long; nodes = refl; ahead = refl }) k in
     epoch_in (nodes w) _ (strategy_of w) (rw (are, e) at (words k)) (rw (are, e) at (lists k))))
@@ -69,12 +69,12 @@ module _ (w : List ℕ) (ok : state_ok w ≡ true) where
   -- each of the header's tests holds
   pub test : (i : ℕ) → get_or (header_tests w) i true ≡ true
   unfolding state_ok
-  test i = test_holds (header_tests w) (and-true (header_in_range w) _ (and-true _ _ ok).0).0 i
+  test i = test_holds (header_tests w) (and_parts (header_in_range w) _ (and_parts _ _ ok).0).0 i
 
   pub header_ok : HeaderOk w
   unfolding header_tests
   header_ok =
-      let n = and-true (leb 1 (nodes w)) (leb (nodes w) 16) (test nodes_at) in
+      let n = and_parts (leb 1 (nodes w)) (leb (nodes w) 16) (test nodes_at) in
       record {
         some = leb-true 1 (nodes w) n.0;
         few = leb-true (nodes w) 16 n.1;
@@ -92,13 +92,13 @@ module _ (w : List ℕ) (ok : state_ok w ≡ true) where
   -- and has the shape of its own numbers
   pub shaped : Shaped (nodes w) (ahead w) w
   unfolding state_ok
-  shaped = record { long = eqb-true _ _ (and-true (header_in_range w) _ (and-true _ _ ok).0).1; nodes = refl; ahead = refl }
+  shaped = record { long = eqb-true _ _ (and_parts (header_in_range w) _ (and_parts _ _ ok).0).1; nodes = refl; ahead = refl }
 
   in_range : (e : ℕ) → epoch_in_range (strategy_of w) (nodes w) (epoch_words w e) ≡ true
   unfolding state_ok
   in_range e =
       rw (words_are (nodes w) (ahead w) w shaped e)
-      (epochs_at_lem w (ahead w + 1) (epochs_at (nodes w)) (and-true (header_in_range w && eqb (length w) (state_length (nodes w) (ahead w))) _ ok).1 (e % (ahead w + 1)) (mod-lt e (omega arith)))
+      (epochs_at_lem w (ahead w + 1) (epochs_at (nodes w)) (and_parts (header_in_range w && eqb (length w) (state_length (nodes w) (ahead w))) _ ok).1 (e % (ahead w + 1)) (mod-lt e (omega arith)))
 
   pub words_in_range : (e : ℕ) → EpochOk (nodes w) (epoch_words w e)
   words_in_range e = epoch_below (nodes w) _ (strategy_of w) header_ok.some (words_long (nodes w) (ahead w) w shaped e) (in_range e)
@@ -231,7 +231,7 @@ module _ (w : List ℕ) (ok : state_ok w ≡ true) where
         le-leb (current_epoch v) (last_epoch + ahead w + 1) h.epoch,
         le-leb (input v) 1 h.given,
         le-leb (fault_count v) fault_limit h.counted,
-      ) (and_both _ _ (all_every (λ x. eqb x 0) (header_length - vacant_at) vacant_at v (λ k l. eq-eqb _ _ (h.rest k l))) refl)
+      ) (and_from _ _ (all_every (λ x. eqb x 0) (header_length - vacant_at) vacant_at v (λ k l. eq-eqb _ _ (h.rest k l))) refl)
 
   pub leave : (v : List ℕ) → StateOk w (last_epoch + ahead w + 1) v → state_ok v ≡ true
   leave v h =

@@ -3,16 +3,17 @@ use Prim.Native.Nat.{ℕ, zero, suc, ◌+◌, ◌-◌, ◌*◌, ◌%◌, ◌≤�
 use native.Mathlib.Nat.{mod-lt, mod-eq_of_lt, mul-add-mod_self_right}
 use native.Mathlib.Omega.{arith}
 use mathlib.Core.Path.{◌≡◌, refl, sym, ◌∙◌}
-use mathlib.Core.Bool.{true, false}
+use mathlib.Core.Bool.{true, false, true≢false}
 use lib.Dec.{eqb, leb, ltb, leb-suc-suc}
 use borrow.Author.Tests.{lt-leb, lt-ltb, le-ltb, ne_eqb, leb-true}
+use Rattle.std.proofs.lemmas.Bool.{and_parts}
 use Rattle.steps.specs.Numbers.{schedule_limit}
 use Rattle.steps.specs.Table.{within}
+use Rattle.epochwords.proofs.RangeCode.{none_below}
 use Rattle.state.specs.declared.EncryptionSchedule.{EncryptionSchedule}
 use Rattle.state.specs.declared.EncryptionSchedule.TheVariants.{Always, Never, EveryNthEpoch, TickTock}
 use Rattle.state.specs.Schedule.{schedule_of, use_on_epoch, original_use, as_original, schedule_ok}
 use Rattle.state.specs.Shape.{Divides}
-use Rattle.state.proofs.Bools.{never, and_left, and_right}
 
 pub always_encrypts : (epoch : ℕ) → use_on_epoch Always epoch ≡ true
 unfolding use_on_epoch
@@ -52,14 +53,10 @@ pub tick_tock_never : (off epoch : ℕ) → use_on_epoch (TickTock 0 off) epoch 
 unfolding use_on_epoch
 tick_tock_never off epoch = le-ltb (epoch % (0 + off)) 0 (omega arith)
 
-below_one : (i : ℕ) → ltb i 1 ≡ eqb i 0
-below_one zero = refl
-below_one (suc i) = le-ltb (suc i) 1 (omega arith) ∙ sym (ne_eqb (suc i) 0 (λ e. omega arith))
-
 -- one epoch encrypted and n − 1 plain
 pub as_every_nth : (n epoch : ℕ) → 1 ≤ n → use_on_epoch (TickTock 1 (n - 1)) epoch ≡ use_on_epoch (EveryNthEpoch n) epoch
 unfolding use_on_epoch
-as_every_nth n epoch h = let whole : 1 + (n - 1) ≡ n = omega (arith, h) in rw whole (below_one (epoch % n))
+as_every_nth n epoch h = let whole : 1 + (n - 1) ≡ n = omega (arith, h) in rw whole (sym (none_below (epoch % n)))
 
 -- THE RUST, run with what `as_original` says, encrypts the same epochs
 pub as_original_lem : (s : EncryptionSchedule) → (epoch : ℕ) → use_on_epoch s epoch ≡ original_use (as_original s) epoch
@@ -91,6 +88,6 @@ pub ok_divides : (kind a b : ℕ) → schedule_ok kind a b ≡ true → Divides 
 unfolding schedule_ok schedule_of
 ok_divides zero a b e = tt
 ok_divides (suc zero) a b e = tt
-ok_divides (suc (suc zero)) a b e = leb-true 1 a (and_left _ _ e)
-ok_divides (suc (suc (suc zero))) a b e = (leb-true 1 (a + b) (and_left _ _ e), omega (arith, leb-true (a + b) schedule_limit (and_right (leb 1 (a + b)) _ e)))
-ok_divides (suc (suc (suc (suc k)))) a b e = never (sym (ok_other (suc (suc (suc (suc k)))) a b (omega arith) ∙ e))
+ok_divides (suc (suc zero)) a b e = leb-true 1 a (and_parts _ _ e).0
+ok_divides (suc (suc (suc zero))) a b e = (leb-true 1 (a + b) (and_parts _ _ e).0, omega (arith, leb-true (a + b) schedule_limit (and_parts (leb 1 (a + b)) _ e).1))
+ok_divides (suc (suc (suc (suc k)))) a b e = absurd (true≢false (sym (ok_other (suc (suc (suc (suc k)))) a b (omega arith) ∙ e)))

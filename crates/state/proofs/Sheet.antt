@@ -8,9 +8,9 @@ use mathlib.Core.List.{List, [], ◌∷◌}
 use lib.Dec.{eqb}
 use lib.ListN.{length, get_or}
 use borrow.Author.Tests.{eqb-true}
+use Rattle.std.proofs.lemmas.Bool.{and_parts}
 use Rattle.steps.specs.Numbers.{node_limit, ahead_limit}
 use Rattle.state.specs.State.{epochs_at, state_length}
-use Rattle.state.proofs.Bools.{and_left, and_right}
 use Rattle.state.proofs.LengthTable.{lengths}
 
 -- A TEST of each entry of a table and its index, the first of which is i
@@ -22,9 +22,9 @@ every test i (x ∷ xs) = test i x && every test (suc i) xs
 every_from : (test : ℕ → ℕ → Bool) (i : ℕ) (xs : List ℕ) → every test i xs ≡ true → (k : ℕ) → k < length xs → test (i + k) (get_or xs k 0) ≡ true
 unfolding every
 every_from test i [] h k l = absurd (not-suc-le-zero l)
-every_from test i (x ∷ xs) h zero l = ap (λ m. test m x) (add-zero i) ∙ and_left (test i x) _ h
+every_from test i (x ∷ xs) h zero l = ap (λ m. test m x) (add-zero i) ∙ (and_parts (test i x) _ h).0
 every_from test i (x ∷ xs) h (suc k) l =
-    ap (λ m. test m (get_or xs k 0)) (add-suc i k ∙ sym (suc-add i k)) ∙ every_from test (suc i) xs (and_right (test i x) _ h) k (le_of_suc-le-suc l)
+    ap (λ m. test m (get_or xs k 0)) (add-suc i k ∙ sym (suc-add i k)) ∙ every_from test (suc i) xs (and_parts (test i x) _ h).1 k (le_of_suc-le-suc l)
 
 every_at : (test : ℕ → ℕ → Bool) (xs : List ℕ) → every test 0 xs ≡ true → (k : ℕ) → k < length xs → test k (get_or xs k 0) ≡ true
 every_at test xs h k l = ap (λ m. test m (get_or xs k 0)) (sym (zero-add k)) ∙ every_from test 0 xs h k l

@@ -4,8 +4,9 @@ use mathlib.Core.Path.{◌≡◌, refl, ap, ◌∙◌}
 use mathlib.Core.Bool.{Bool, true, false, cond}
 use native.Mathlib.Omega.{arith}
 use native.Mathlib.Nat.{div-add-mod, mod-lt, div-lt_iff_lt-mul, mul-le-mul_right, two-pow-succ}
-use lib.Pow.{pow-add, pow_pos, shl_exact}
+use lib.Pow.{pow-add, pow_pos}
 use borrow.Author.Tests.{eqb-false}
+use Rattle.std.proofs.lemmas.Nat.{one_shl}
 use Rattle.steps.specs.Bits.{has_bit, with_bit}
 
 -- a bit below n leaves a word below 2^n there
@@ -31,11 +32,7 @@ module _ (n x i : ℕ) (l : i < n) (h : x < 2 ^ n) where
       go true e = h
       go false e = bit_below e
 
--- two to a number below 64, as a shift has it
-pub shifted : (i : ℕ) → i < 64 → 1 * 2 ^ i % 18446744073709551616 ≡ 2 ^ i
-shifted i h = shl_exact 1 i 64 (omega arith) (omega arith) ∙ omega arith
-
 -- a bit that is not set is added
 pub with_added : (x i : ℕ) → i < 64 → has_bit x i ≡ false → x + 1 * 2 ^ i % 18446744073709551616 ≡ with_bit x i
 unfolding with_bit
-with_added x i h e = rw (e, shifted i h)
+with_added x i h e = rw (e, one_shl i 64 h)

@@ -9,6 +9,7 @@ use native.Mathlib.Omega.{arith}
 use lib.ListN.{length, get_or, length-append}
 use lib.Dec.{eqb, ltb}
 use borrow.Author.Tests.{leb-true, ltb-true, ltb-false}
+use Rattle.std.proofs.lemmas.Bool.{and_parts}
 use Rattle.steps.specs.declared.reader.Content.{Content}
 use Rattle.steps.specs.Answers.{Answer}
 use Rattle.steps.specs.Answers.{Got, Refused}
@@ -17,10 +18,10 @@ use Rattle.steps.specs.Answers.{Rec, Tape, tape, link, rec_at, on_record, walk, 
 use Rattle.steps.specs.Steps.{Entry, message, fault}
 use Rattle.steps.specs.Runs.{Verdict, going, refused, failed, Run, ends, before, onward_as, onward, heard_as, heard}
 use Rattle.steps.specs.Parts.{is_part, message_kind, fault_kind, part_entries, last_output, PartsTold, parts_from, read_parts}
-use Rattle.steps.proofs.ChainLaws.{and-true, on_bounds, link_up, link_end}
+use Rattle.steps.proofs.ChainLaws.{on_bounds, link_up, link_end}
 use Rattle.steps.proofs.Parts.{parts_on, parts_off}
 use Rattle.steps.proofs.Ranges.{by_test}
-use Rattle.steps.proofs.Logic.{Hand, hand, nothing, given, anything, Logic, Stateless}
+use Rattle.steps.proofs.Logic.{Hand, hand, nothing, anything, Logic, Stateless}
 
 -- a run from tape p that writes at most one entry for each record it reads, and `more` besides
 pub record Bounded {S A : Type 0} (more : ℕ) (p : Tape) (r : Run S A) : Type 0 where
@@ -125,7 +126,7 @@ part_one content proposer kind a b = go (eqb kind 16) (eqb kind 17)
     go false false = omega arith
 
 module _ (content : Content) (proposer : ℕ) where
-  parts_few : (o : (Option ℕ)) (i : ℕ) (l : List Rec) → length (parts_from content proposer o i l).log + length (parts_from content proposer o i l).tape.rest ≤ length l
+  parts_few : (o : Option ℕ) (i : ℕ) (l : List Rec) → length (parts_from content proposer o i l).log + length (parts_from content proposer o i l).tape.rest ≤ length l
   unfolding parts_from
   parts_few o i [] = omega arith
   parts_few o i (r ∷ rs) = go (is_part r.kind) refl (parts_few (last_output o r.kind r.b) r.next rs)
@@ -140,7 +141,7 @@ module _ (content : Content) (proposer : ℕ) where
           (omega (arith, length-append (part_entries content proposer r.kind r.a r.b) later.log, part_one content proposer r.kind r.a r.b))
       go false e h = rw (parts_off content proposer o i r rs e) (omega arith)
 
-  pub spends_parts : {S : Type 0} (n : ℕ) (s : S) (p : Tape) → Spends (λ o. hand (given o) 0) (hand None n) p (read_parts content proposer s p)
+  pub spends_parts : {S : Type 0} (n : ℕ) (s : S) (p : Tape) → Spends (λ o. hand o 0) (hand None n) p (read_parts content proposer s p)
   unfolding left
   spends_parts n s p = record { spent = omega (arith, parts_few None p.place p.rest) }
 
@@ -198,7 +199,7 @@ unfolding table_ok shape_ok chain
 table_short n t e =
     by_test (shape_ok t) _ _ e
     (λ s _. by_test (ltb (length t) 4) _ _ s (λ _ s. absurd (false≢true s)) (λ l s.
-    let few : length t ≤ 4096 = leb-true _ _ (and-true _ _ (and-true _ _ (and-true _ _ (and-true _ _ s).0).0).0).0 in
+    let few : length t ≤ 4096 = leb-true _ _ (and_parts _ _ (and_parts _ _ (and_parts _ _ (and_parts _ _ s).0).0).0).0 in
     let Some : 4 ≤ length t = ltb-false _ _ l in
     omega (arith, walk_short (length t) t (get_or t 0 0) 0 (first (get_or t 0 0)) (omega arith))))
     (λ _ s. absurd (false≢true s))

@@ -6,26 +6,14 @@ use mathlib.Core.List.{List, [], ◌∷◌, ◌++◌}
 use Rattle.steps.specs.Steps.{Entry, message, fault, output, Out, out, Chained, chained, advance, put_at, put_entry, put_all}
 use Rattle.steps.specs.declared.step.Chain.{Chain}
 use Rattle.steps.specs.declared.step.Step.{Step}
-use mathlib.Core.Bool.{Bool, true, false, ◌&&◌, false≢true}
+use mathlib.Core.Bool.{Bool, true, false}
 use native.Mathlib.Omega.{arith}
 use lib.ListN.{length, get_or}
 use lib.Dec.{ltb}
 use borrow.Author.Tests.{ltb-true, ltb-false, lt-ltb, le-ltb}
+use Rattle.std.proofs.Math.Bool.{and-false}
+use Rattle.std.proofs.lemmas.Bool.{and_parts}
 use Rattle.steps.specs.Answers.{link, rec_at, on_record, walk, chain}
-
-and-false : (x : Bool) → x && false ≡ false
-and-false true = refl
-and-false false = refl
-
-pub and-true : (x y : Bool) → x && y ≡ true → (x ≡ true) × (y ≡ true)
-and-true true y e = (refl, e)
-and-true false y e = absurd (false≢true e)
-
--- two tests that say the same
-pub same_tests : (x y : Bool) → (x ≡ true → y ≡ true) → (y ≡ true → x ≡ true) → x ≡ y
-same_tests true y f g = sym (f refl)
-same_tests false true f g = g refl
-same_tests false false f g = refl
 
 -- a place that is on a record is above 0, and within the table
 pub on_record_lem : (t : List ℕ) (i : ℕ) → 0 < i → i < length t / 4 → on_record t i ≡ true
@@ -34,7 +22,7 @@ on_record_lem t i p q = simp (lt-ltb 0 i p, lt-ltb i (length t / 4) q)
 
 pub on_bounds : (t : List ℕ) (i : ℕ) → on_record t i ≡ true → (0 < i) × (i < length t / 4)
 unfolding on_record
-on_bounds t i e = let h = and-true _ _ e in (ltb-true 0 i h.0, ltb-true i (length t / 4) h.1)
+on_bounds t i e = let h = and_parts _ _ e in (ltb-true 0 i h.0, ltb-true i (length t / 4) h.1)
 
 pub off_at_zero : (t : List ℕ) → on_record t 0 ≡ false
 unfolding on_record

@@ -6,12 +6,12 @@ use mathlib.Core.Bool.{Bool, true, false, cond, ◌&&◌}
 use Rattle.std.specs.Prelude.{Option}
 use lib.Dec.{eqb}
 use borrow.Author.Tests.{eqb-true}
+use Rattle.std.proofs.lemmas.Bool.{and_parts}
 use Rattle.steps.specs.Answers.{Rec, Tape, tape, ask_for, ask, ask_about}
 use Rattle.steps.specs.Table.{within}
 use Rattle.steps.specs.Steps.{Entry, message, fault, output, faults, outputs}
 use Rattle.steps.specs.Runs.{Verdict, going, refused, failed, Run, before, onward_as, onward, heard_as, heard, inside}
 use Rattle.steps.specs.Taken.{or_else, first_taken, of_value, of_decision, is_asked, concerned_after, first_decrypted, thirteens_in}
-use Rattle.steps.proofs.ChainLaws.{and-true}
 use Rattle.steps.proofs.TakenFromChain.{Good, GoodFrom, apart}
 
 -- WHAT A RUN GIVES: of its value, state, tape and log
@@ -98,7 +98,7 @@ module _ {S A : Type 0} where
   unfolding ask_about
   gives_about p kind who s k Q f =
       gives_for (λ r. eqb r.kind kind && eqb r.b who) p s k Q
-      (λ r rs e w. let h = and-true (eqb r.kind kind) (eqb r.b who) w in f r rs e (eqb-true r.kind kind h.0) (eqb-true r.b who h.1))
+      (λ r rs e w. let h = and_parts (eqb r.kind kind) (eqb r.b who) w in f r rs e (eqb-true r.kind kind h.0) (eqb-true r.b who h.1))
 
 pub gives_onward : {S A B : Type 0} (r : Run S A) (k : A → S → Tape → Run S B) (Q : B → S → Tape → List Entry → Type 0)
     → Gives r (λ a s p l. Gives (k a s p) (λ b s p m. Q b s p (l ++ m))) → Gives (onward r k) Q

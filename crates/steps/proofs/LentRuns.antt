@@ -92,11 +92,6 @@ module _ {S A B : Type 0} (s : S) (p : Tape) (r : Run S A) (k : A → S → Tape
   onward_err w o NotNext e = onward_refused (left {S = S} {A = A} s (Err NotNext) p w) o r k e refl
   onward_err w o (Failed f) e = onward_failed (left {S = S} {A = A} s (Err (Failed f)) p w) o r k e (failure_number f) refl
 
-  -- the same where the part only reads
-  pub read_ok : (a : A) → left_reading s (Ok a) p ≡ r → (x : Run S B) → x ≡ k a s p → x ≡ onward r k
-  unfolding onward onward_as
-  read_ok a e x n = rw (← e) n
-
   pub read_ok_left : (a : A) → left_reading s (Ok a) p ≡ r → (d : Left S B) (o : Out) → d ≡ leaves o (k a s p) → d ≡ leaves o (onward r k)
   unfolding onward onward_as
   read_ok_left a e d o n = rw (← e) n

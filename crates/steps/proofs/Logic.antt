@@ -7,6 +7,7 @@ use mathlib.Core.Bool.{Bool, true, false, cond}
 use Rattle.std.specs.Prelude.{Option, None, Some}
 use native.Mathlib.Omega.{arith}
 use lib.Dec.{eqb}
+use Rattle.std.proofs.lemmas.Bool.{cond_both}
 use Rattle.steps.specs.declared.reader.Content.{Content}
 use Rattle.steps.specs.Answers.{Tape, ask, ask_about}
 use Rattle.steps.specs.Steps.{Entry, message, fault}
@@ -24,11 +25,6 @@ hand x n = record { handle = x; entries = n }
 -- a value that hands up nothing
 abbrev pub nothing : {A : Type 0} → A → Hand
 nothing a = hand None 0
-
--- the output of an instance
-abbrev pub given : (Option ℕ) → Option ℕ
-given None = None
-given (Some v) = Some v
 
 -- WHAT MAY BE READ (answers by their kinds, a 12 whose handle is handed up, parts), written and failed with, and what is known of a handle that
 -- was read and of the index of a node
@@ -79,17 +75,12 @@ pub record Logic (T : Terms) (S : Type 0) : Type 1 where
       → ((a b : ℕ) (q : Tape) → Good A f (hand x (n + 1)) s q (k a b q)) → Good A f (hand x n) s p (heard (ask_about p kind who) s k)
   pub asks_text : (A : Type 0) (f : A → Hand) (n : ℕ) (s : S) (p : Tape) (k : ℕ → ℕ → Tape → Run S A) → T.Text
       → ((a b : ℕ) (q : Tape) → T.Handle b → Good A f (hand (Some b) (n + 1)) s q (k a b q)) → Good A f (hand None n) s p (heard (ask p 12) s k)
-  pub parts : (content : Content) (proposer n : ℕ) (s : S) (p : Tape) → T.Parts → Good (Option ℕ) (λ o. hand (given o) 0) (hand None n) s p (read_parts content proposer s p)
+  pub parts : (content : Content) (proposer n : ℕ) (s : S) (p : Tape) → T.Parts → Good (Option ℕ) (λ o. hand o 0) (hand None n) s p (read_parts content proposer s p)
   -- entries that are allowed besides are left over, or not used
   pub spares : (A : Type 0) (n left all : ℕ) (s : S) (p : Tape) (r : Run S A) → left + n ≤ all → Good A nothing (hand None n) s p r → Good A (λ a. hand None left) (hand None all) s p r
   -- Rust's `?`
   pub goes_on : (A B : Type 0) (f : A → Hand) (g : B → Hand) (h : Hand) (s : S) (p : Tape) (r : Run S A) (k : A → S → Tape → Run S B)
       → Good A f h s p r → ((a : A) (t : S) (q : Tape) → Good B g (f a) t q (k a t q)) → Good B g h s p (onward r k)
-
--- by the two ways on from a test, for any property
-pub either : {R : Type 0} (G : R → Type 0) (x : Bool) (r s : R) → (x ≡ true → G r) → (x ≡ false → G s) → G (cond x r s)
-either G true r s f g = f refl
-either G false r s f g = g refl
 
 module _ {T : Terms} {S : Type 0} (L : Logic T S) where
   -- a run that goes on and hands up nothing, from the state where it is or from one that may be left for it
@@ -122,7 +113,7 @@ module _ {T : Terms} {S : Type 0} (L : Logic T S) where
 
   -- by a test
   pub test : {A : Type 0} {f : A → Hand} {h : Hand} {s : S} {p : Tape} (x : Bool) {r t : Run S A} → (x ≡ true → L.Good A f h s p r) → (x ≡ false → L.Good A f h s p t) → L.Good A f h s p (cond x r t)
-  test x {r} {t} g k = either (L.Good _ _ _ _ _) x r t g k
+  test x {r} {t} g k = cond_both x r t (L.Good _ _ _ _ _) g k
 
   -- an entry of those that are allowed
   pub one : {A : Type 0} {f : A → Hand} {x : Option ℕ} (n : ℕ) (e : Entry) (s : S) (p : Tape) (r : Run S A) → 1 ≤ n → T.Writes e

@@ -14,7 +14,7 @@ use Rattle.steps.specs.Parts.{is_part, message_kind, fault_kind, part_entries, l
 abbrev pub after_entries : List Entry → PartsTold → PartsTold
 after_entries l told = record { output = told.output; tape = told.tape; log = l ++ told.log }
 
-module _ (content : Content) (proposer : ℕ) (output : (Option ℕ)) (i : ℕ) (r : Rec) (rs : List Rec) where
+module _ (content : Content) (proposer : ℕ) (output : Option ℕ) (i : ℕ) (r : Rec) (rs : List Rec) where
   pub parts_on : is_part r.kind ≡ true
       → parts_from content proposer output i (r ∷ rs) ≡ after_entries (part_entries content proposer r.kind r.a r.b) (parts_from content proposer (last_output output r.kind r.b) r.next rs)
   unfolding parts_from

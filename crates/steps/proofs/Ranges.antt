@@ -9,6 +9,7 @@ use lib.ListN.{length, get_or, set, replicate, length-set, length-replicate}
 use lib.Seq.{get_or-set_same, get_or-set_other, set_out}
 use lib.Dec.{eqb, leb, ltb}
 use borrow.Author.Tests.{eqb-true, eqb-false, ne_eqb, leb-true, ltb-true, ltb-false}
+use Rattle.std.proofs.lemmas.Bool.{and_parts}
 use Rattle.steps.specs.Answers.{Answer}
 use Rattle.steps.specs.Answers.{Got, Refused}
 use Rattle.steps.specs.declared.reader.Content.{Content}
@@ -17,18 +18,15 @@ use Rattle.steps.specs.Answers.{Rec, Tape, tape, link, rec_at, chain, tape_of, A
 use Rattle.steps.specs.Steps.{Entry}
 use Rattle.steps.specs.Runs.{Verdict, going, refused, failed, Run, ends, onward_as, onward, heard_as, heard, inside}
 use Rattle.steps.specs.Parts.{is_part, output_of, last_of, last_output, parts_from, read_parts}
-use Rattle.steps.proofs.ChainLaws.{and-true, on_record_lem, off_at_zero, link_up, link_end, chain_on, chain_off}
+use Rattle.steps.proofs.ChainLaws.{on_record_lem, off_at_zero, link_up, link_end, chain_on, chain_off}
 use Rattle.steps.proofs.Parts.{parts_on, parts_off}
 use Rattle.steps.proofs.TableCheck.{follow_rule, follow_facts}
-use Rattle.steps.proofs.Logic.{given, Terms, Logic}
+use Rattle.steps.proofs.Logic.{Terms, Logic}
 
 -- A TEST that came out
 pub by_test : {P : Type 0} (x u v : Bool) → cond x u v ≡ true → (x ≡ true → u ≡ true → P) → (x ≡ false → v ≡ true → P) → P
 by_test true u v e f g = f refl e
 by_test false u v e f g = g refl e
-
-pub and_both : (x y : Bool) → x ≡ true → y ≡ true → x && y ≡ true
-and_both x y e f = rw (e, f)
 
 -- THE ANSWERS. In every record but a message, b is below 2^32
 abbrev pub Small : Rec → Type 0
@@ -39,22 +37,22 @@ AllSmall [] = Unit {0}
 AllSmall (r ∷ rs) = Small r × AllSmall rs
 
 handle_below : (b : ℕ) → handle b ≡ true → b < 0x1_0000_0000
-handle_below b e = let h : b ≤ 0xffff_ffff = leb-true _ _ (and-true (leb 1 b) _ e).1 in omega arith
+handle_below b e = let h : b ≤ 0xffff_ffff = leb-true _ _ (and_parts (leb 1 b) _ e).1 in omega arith
 
 module _ (n context kind a b : ℕ) (few : n ≤ 16) where
   record_small : record_ok n context kind a b ≡ true → (kind ≡ 16 → ⊥) → b < 0x1_0000_0000
   unfolding record_ok
   record_small e not =
-      by_test (eqb kind 1) _ _ e (λ _ u. omega (arith, eqb-true b 0 (and-true (leb a 1) _ u).1)) (λ _ e.
+      by_test (eqb kind 1) _ _ e (λ _ u. omega (arith, eqb-true b 0 (and_parts (leb a 1) _ u).1)) (λ _ e.
       by_test (eqb kind 2 || eqb kind 12) _ _ e
-      (λ _ u. by_test (eqb a 0) _ _ u (λ _ v. omega (arith, eqb-true b 0 v)) (λ _ v. handle_below b (and-true (eqb a 1) _ v).1))
+      (λ _ u. by_test (eqb a 0) _ _ u (λ _ v. omega (arith, eqb-true b 0 v)) (λ _ v. handle_below b (and_parts (eqb a 1) _ v).1))
       (λ _ e.
-      by_test (within 3 10 kind || eqb kind 13) _ _ e (λ _ u. omega (arith, ltb-true b n (and-true (leb a 1) _ u).1)) (λ _ e.
-      by_test (eqb kind 11) _ _ e (λ _ u. handle_below b (and-true (eqb a 1) _ u).1) (λ _ e.
+      by_test (within 3 10 kind || eqb kind 13) _ _ e (λ _ u. omega (arith, ltb-true b n (and_parts (leb a 1) _ u).1)) (λ _ e.
+      by_test (eqb kind 11) _ _ e (λ _ u. handle_below b (and_parts (eqb a 1) _ u).1) (λ _ e.
       by_test (eqb kind 16) _ _ e (λ s u. absurd (not (eqb-true kind 16 s))) (λ _ e.
-      by_test (eqb kind 17) _ _ e (λ _ u. omega (arith, leb-true b 0xffff_ffff (and-true (ltb 0 context && ltb a n) _ u).1)) (λ _ e.
+      by_test (eqb kind 17) _ _ e (λ _ u. omega (arith, leb-true b 0xffff_ffff (and_parts (ltb 0 context && ltb a n) _ u).1)) (λ _ e.
       by_test (eqb kind 18) _ _ e
-      (λ _ u. by_test (leb context 4) _ _ (and-true (ltb 0 context && eqb a 0) _ u).1 (λ _ v. handle_below b v) (λ _ v. omega (arith, leb-true b 1 v)))
+      (λ _ u. by_test (leb context 4) _ _ (and_parts (ltb 0 context && eqb a 0) _ u).1 (λ _ v. handle_below b v) (λ _ v. omega (arith, leb-true b 1 v)))
       (λ _ e. absurd (false≢true e))))))))
 
 -- along the chain of a table that is not malformed
@@ -161,7 +159,7 @@ module _ {S A : Type 0} {P : S → Type 0} {Q : A → Type 0} where
       → ((a b : ℕ) (q : Tape) → b < 0x1_0000_0000 → AllSmall q.rest → Kept P Q (k a b q)) → Kept P Q (heard (ask_about p kind who) s k)
   unfolding ask_about
   kept_about p kind who s k n h o f =
-      let u = for_heard (λ r. eqb r.kind kind && eqb r.b who) (λ r e z. eqb-false kind 16 n (sym (eqb-true _ _ (and-true (eqb r.kind kind) _ e).0) ∙ z)) p p.rest o o in
+      let u = for_heard (λ r. eqb r.kind kind && eqb r.b who) (λ r e z. eqb-false kind 16 n (sym (eqb-true _ _ (and_parts (eqb r.kind kind) _ e).0) ∙ z)) p p.rest o o in
       heard_kept (ask_about p kind who) s k h u.tape (λ a b e. f a b _ (u.small a b e) u.tape)
 
 -- Rust's `?`: a refusal or failure stays
@@ -191,34 +189,31 @@ kept_any {r = r} k = record { state = k.state; tape = k.tape; value = says_any r
 
 -- kinds below that of a message
 pub within_below : (lo hi m k : ℕ) → hi < m → within lo hi k ≡ true → eqb k m ≡ false
-within_below lo hi m k l e = ne_eqb k m (λ z. omega (arith, leb-true k hi (and-true (leb lo k) (leb k hi) e).1))
+within_below lo hi m k l e = ne_eqb k m (λ z. omega (arith, leb-true k hi (and_parts (leb lo k) (leb k hi) e).1))
 
 -- THE PARTS of an answer: an output is below 2^32
-abbrev pub SmallOutput : (Option ℕ) → Type 0
-SmallOutput o = SmallOption (given o)
-
-last_small : (o : (Option ℕ)) (r : Rec) → Small r → SmallOutput o → SmallOutput (last_output o r.kind r.b)
+last_small : (o : Option ℕ) (r : Rec) → Small r → SmallOption o → SmallOption (last_output o r.kind r.b)
 unfolding last_output output_of last_of SmallOption
 last_small o r h l = go (eqb r.kind 18) refl
   where
-    go : (x : Bool) → eqb r.kind 18 ≡ x → SmallOutput (last_of o (cond x (Some r.b) None))
+    go : (x : Bool) → eqb r.kind 18 ≡ x → SmallOption (last_of o (cond x (Some r.b) None))
     go true e = h (λ z. omega (arith, eqb-true r.kind 18 e))
     go false e = l
 
 module _ (content : Content) (proposer : ℕ) where
-  parts_small : (o : (Option ℕ)) (i : ℕ) (l : List Rec) → AllSmall l → SmallOutput o
-      → AllSmall (parts_from content proposer o i l).tape.rest × SmallOutput (parts_from content proposer o i l).output
+  parts_small : (o : Option ℕ) (i : ℕ) (l : List Rec) → AllSmall l → SmallOption o
+      → AllSmall (parts_from content proposer o i l).tape.rest × SmallOption (parts_from content proposer o i l).output
   unfolding parts_from AllSmall
   parts_small o i [] h u = (tt, u)
   parts_small o i (r ∷ rs) h u = go (is_part r.kind) refl (parts_small (last_output o r.kind r.b) r.next rs h.1 (last_small o r h.0 u))
     where
       go : (x : Bool) → is_part r.kind ≡ x
-          → AllSmall (parts_from content proposer (last_output o r.kind r.b) r.next rs).tape.rest × SmallOutput (parts_from content proposer (last_output o r.kind r.b) r.next rs).output
-          → AllSmall (parts_from content proposer o i (r ∷ rs)).tape.rest × SmallOutput (parts_from content proposer o i (r ∷ rs)).output
+          → AllSmall (parts_from content proposer (last_output o r.kind r.b) r.next rs).tape.rest × SmallOption (parts_from content proposer (last_output o r.kind r.b) r.next rs).output
+          → AllSmall (parts_from content proposer o i (r ∷ rs)).tape.rest × SmallOption (parts_from content proposer o i (r ∷ rs)).output
       go true e k = rw (parts_on content proposer o i r rs e) k
       go false e k = rw (parts_off content proposer o i r rs e) (h, u)
 
-  pub kept_parts : {S : Type 0} {P : S → Type 0} (s : S) (p : Tape) → P s → AllSmall p.rest → Kept P SmallOutput (read_parts content proposer s p)
+  pub kept_parts : {S : Type 0} {P : S → Type 0} (s : S) (p : Tape) → P s → AllSmall p.rest → Kept P SmallOption (read_parts content proposer s p)
   unfolding Says SmallOption
   kept_parts s p h o = let k = parts_small None p.place p.rest o tt in record { state = h; tape = k.0; value = k.1 }
 

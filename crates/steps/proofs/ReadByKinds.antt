@@ -6,13 +6,13 @@ use mathlib.Core.Bool.{Bool, true, false, cond, ◌&&◌}
 use Rattle.std.specs.Prelude.{Option}
 use lib.Dec.{eqb}
 use borrow.Author.Tests.{eqb-true}
+use Rattle.std.proofs.lemmas.Bool.{and_parts}
 use Rattle.steps.specs.declared.reader.Content.{Content}
 use Rattle.steps.specs.Answers.{Got, Refused}
 use Rattle.steps.specs.Answers.{Rec, Tape, tape, Asked, asked as answered, ask_for, ask, ask_about}
 use Rattle.steps.specs.Table.{context_after}
 use Rattle.steps.specs.Parts.{is_part, last_output, parts_from}
 use Rattle.steps.specs.Taken.{or_else, first_taken, is_asked, concerned_after, first_decrypted, thirteens_in}
-use Rattle.steps.proofs.ChainLaws.{and-true}
 use Rattle.steps.proofs.TakenFromChain.{GoodFrom, Good}
 use Rattle.steps.proofs.Parts.{parts_on, parts_off}
 
@@ -67,10 +67,10 @@ module _ (is : ℕ → Bool) where
   pub past_about : (p : Tape) (k who : ℕ) → is k ≡ true → Past is p.rest (ask_about p k who).tape.rest
   unfolding ask_about
   past_about p k who e =
-      past_for (λ r. eqb r.kind k && eqb r.b who) (λ r t. ap is (eqb-true r.kind k (and-true (eqb r.kind k) _ t).0) ∙ e) p
+      past_for (λ r. eqb r.kind k && eqb r.b who) (λ r t. ap is (eqb-true r.kind k (and_parts (eqb r.kind k) _ t).0) ∙ e) p
 
   -- the parts of an answer
-  pub past_parts_lem : ((k : ℕ) → is_part k ≡ true → is k ≡ true) → (content : Content) (proposer : ℕ) (output : (Option ℕ)) (i : ℕ) (l : List Rec)
+  pub past_parts_lem : ((k : ℕ) → is_part k ≡ true → is k ≡ true) → (content : Content) (proposer : ℕ) (output : Option ℕ) (i : ℕ) (l : List Rec)
       → Past is l (parts_from content proposer output i l).tape.rest
   unfolding parts_from
   past_parts_lem f content proposer output i [] = past_same []

@@ -6,7 +6,7 @@ use Rattle.steps.specs.Answers.{Answer}
 use Rattle.steps.specs.Answers.{Got, Refused}
 use Rattle.steps.specs.Answers.{Tape, Asked, asked}
 use Rattle.steps.specs.Steps.{Entry, Out, put_all}
-use Rattle.steps.specs.Runs.{Verdict, going, refused, failed, number_of, Run, Left, ends, before, onward_as, onward, heard_as, heard, leaves}
+use Rattle.steps.specs.Runs.{Verdict, going, refused, failed, number_of, Run, Left, before, onward_as, onward, heard_as, heard, leaves}
 use Rattle.steps.proofs.ChainLaws.{put_all_append}
 
 module _ {S A B : Type 0} (d : Left S A) (o : Out) (r : Run S A) (k : A → S → Tape → Run S B) (e : d ≡ leaves o r) where
@@ -73,10 +73,6 @@ module _ {S A : Type 0} (q : Asked) (x : Answer) (p : Tape) (s : S) (k : ℕ →
   pub heard_got : (a b : ℕ) → x ≡ Got a b → heard q s k ≡ k a b p
   unfolding heard heard_as
   heard_got a b n = rw (← e, n)
-
-  pub heard_none : x ≡ Refused → heard q s k ≡ ends refused s p
-  unfolding heard heard_as
-  heard_none n = rw (← e, n)
 
   -- a run that hears no answer ends with the number that asking replied
   pub heard_number : x ≡ Refused → number_of (heard q s k).verdict ≡ q.reply

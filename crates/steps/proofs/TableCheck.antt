@@ -7,9 +7,10 @@ use native.Mathlib.Omega.{arith}
 use lib.ListN.{length, get_or}
 use lib.Dec.{eqb, ltb}
 use borrow.Author.Tests.{eqb-true, eqb-false, eq-eqb, ne_eqb, ltb-true, ltb-false}
+use Rattle.std.proofs.lemmas.Bool.{and_parts}
 use Rattle.steps.specs.Table.{record_ok, link_ok, may_follow, chain_ok, context_after, word, shape_ok}
 use Rattle.steps.specs.Answers.{link, rec_at, on_record, chain}
-use Rattle.steps.proofs.ChainLaws.{and-true, link_up, link_end, chain_on}
+use Rattle.steps.proofs.ChainLaws.{link_up, link_end, chain_on}
 
 -- a table of the right shape has its first four words
 pub shape_length : (t : List ℕ) → shape_ok t ≡ true → 4 ≤ length t
@@ -24,7 +25,7 @@ shape_length t e = by_test (ltb (length t) 4) _ e refl
 pub link_facts : (t : List ℕ) (own next : ℕ) → link_ok t own next ≡ true → (next ≡ 0 → ⊥) → (own < next) × (next < length t / 4)
 unfolding link_ok
 link_facts t own next e d =
-    let h = and-true (ltb own next) (ltb next (length t / 4)) (rw (ne_eqb next 0 d) at e) in
+    let h = and_parts (ltb own next) (ltb next (length t / 4)) (rw (ne_eqb next 0 d) at e) in
     (ltb-true _ _ h.0, ltb-true _ _ h.1)
 
 -- ALONG A CHAIN whose nexts keep the rule the reader goes from a record to its next, and fewer words are left
@@ -45,11 +46,11 @@ module _ (t : List ℕ) (i : ℕ) (ok : link_ok t i (get_or t (i * 4) 0) ≡ tru
 module _ (n : ℕ) (t : List ℕ) (own i context : ℕ) where
   pub follow_link : may_follow n t own i context ≡ true → link_ok t own i ≡ true
   unfolding may_follow
-  follow_link e = (and-true _ _ e).0
+  follow_link e = (and_parts _ _ e).0
 
   pub follow_rule : may_follow n t own i context ≡ true → record_ok n context (word t i 1) (word t i 2) (word t i 3) ≡ true
   unfolding may_follow
-  follow_rule e = (and-true (link_ok t own i) _ e).1
+  follow_rule e = (and_parts (link_ok t own i) _ e).1
 
   pub follow_facts : may_follow n t own i context ≡ true → (i ≡ 0 → ⊥) → (own < i) × (i < length t / 4)
   follow_facts e d = link_facts t own i (follow_link e) d

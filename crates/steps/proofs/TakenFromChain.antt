@@ -8,12 +8,14 @@ use native.Mathlib.Omega.{arith}
 use lib.ListN.{length, get_or}
 use lib.Dec.{eqb, leb, ltb}
 use borrow.Author.Tests.{eqb-true, eqb-false, ne_eqb, leb-true, ltb-true, lt-leb}
+use Rattle.std.proofs.lemmas.Bool.{and_parts}
+use Rattle.std.proofs.Math.Bool.{and-false}
 use Rattle.steps.specs.declared.reader.Content.{Content}
 use Rattle.steps.specs.Answers.{Rec, rec_at, chain, tape_of}
 use Rattle.steps.specs.Table.{within, handle, record_ok, context_after, word, link_ok, may_follow, chain_ok, shape_ok, table_ok}
 use Rattle.steps.specs.Parts.{is_part, output_of, last_of, last_output, parts_from}
 use Rattle.steps.specs.Taken.{or_else, last_output_in, first_taken, is_asked}
-use Rattle.steps.proofs.ChainLaws.{and-true, on_record_lem, off_at_zero, chain_off}
+use Rattle.steps.proofs.ChainLaws.{on_record_lem, off_at_zero, chain_off}
 use Rattle.steps.proofs.TableCheck.{follow_link, follow_rule, follow_facts, chain_next}
 use Rattle.steps.proofs.Parts.{parts_on, parts_off}
 
@@ -82,33 +84,29 @@ unfoldable pub past_parts : List Rec → List Rec
 past_parts [] = []
 past_parts (r ∷ rs) = cond (is_part r.kind) (past_parts rs) (r ∷ rs)
 
-unfoldable pub option_of : (Option ℕ) → Option ℕ
-option_of None = None
-option_of (Some b) = Some b
-
-last_output_lem : (output : (Option ℕ)) (kind b : ℕ) → option_of (last_output output kind b) ≡ or_else (cond (eqb kind 18) (Some b) None) (option_of output)
-unfolding last_output output_of last_of option_of or_else
+last_output_lem : (output : Option ℕ) (kind b : ℕ) → last_output output kind b ≡ or_else (cond (eqb kind 18) (Some b) None) output
+unfolding last_output output_of last_of or_else
 last_output_lem output kind b = go (eqb kind 18)
   where
-    go : (x : Bool) → option_of (last_of output (cond x (Some b) None)) ≡ or_else (cond x (Some b) None) (option_of output)
+    go : (x : Bool) → last_of output (cond x (Some b) None) ≡ or_else (cond x (Some b) None) output
     go true = refl
     go false = refl
 
 module _ (content : Content) (proposer : ℕ) where
-  pub parts_output : (output : (Option ℕ)) (i : ℕ) (rs : List Rec) → option_of (parts_from content proposer output i rs).output ≡ or_else (last_output_in rs) (option_of output)
+  pub parts_output : (output : Option ℕ) (i : ℕ) (rs : List Rec) → (parts_from content proposer output i rs).output ≡ or_else (last_output_in rs) output
   unfolding parts_from last_output_in or_else
   parts_output output i [] = refl
   parts_output output i (r ∷ rs) = go (is_part r.kind) refl (parts_output (last_output output r.kind r.b) r.next rs)
     where
-      later : (Option ℕ)
+      later : Option ℕ
       later = last_output output r.kind r.b
 
-      go : (x : Bool) → is_part r.kind ≡ x → option_of (parts_from content proposer later r.next rs).output ≡ or_else (last_output_in rs) (option_of later)
-          → option_of (parts_from content proposer output i (r ∷ rs)).output ≡ or_else (last_output_in (r ∷ rs)) (option_of output)
-      go true e ih = rw (parts_on content proposer output i r rs e, e, ih, last_output_lem output r.kind r.b) (sym (or_else_assoc (last_output_in rs) _ (option_of output)))
+      go : (x : Bool) → is_part r.kind ≡ x → (parts_from content proposer later r.next rs).output ≡ or_else (last_output_in rs) later
+          → (parts_from content proposer output i (r ∷ rs)).output ≡ or_else (last_output_in (r ∷ rs)) output
+      go true e ih = rw (parts_on content proposer output i r rs e, e, ih, last_output_lem output r.kind r.b) (sym (or_else_assoc (last_output_in rs) _ output))
       go false e ih = rw (parts_off content proposer output i r rs e, e)
 
-  pub parts_rest : (output : (Option ℕ)) (i : ℕ) (rs : List Rec) → (parts_from content proposer output i rs).tape.rest ≡ past_parts rs
+  pub parts_rest : (output : Option ℕ) (i : ℕ) (rs : List Rec) → (parts_from content proposer output i rs).tape.rest ≡ past_parts rs
   unfolding parts_from past_parts
   parts_rest output i [] = refl
   parts_rest output i (r ∷ rs) = go (is_part r.kind) refl (parts_rest (last_output output r.kind r.b) r.next rs)
@@ -122,13 +120,9 @@ module _ (content : Content) (proposer : ℕ) where
 abbrev pub NoPart : (ℕ → Bool) → Type 0
 NoPart is = (kind : ℕ) → is_part kind ≡ true → is kind ≡ false
 
-and_no : (x : Bool) → x && false ≡ false
-and_no true = refl
-and_no false = refl
-
 pub low_no_part : (lo hi : ℕ) → hi < 16 → NoPart (within lo hi)
 unfolding is_part
-low_no_part lo hi h kind e = rw (lt-leb kind hi (omega (arith, leb-true 16 kind (and-true (leb 16 kind) (leb kind 18) e).0))) (and_no (leb lo kind))
+low_no_part lo hi h kind e = rw (lt-leb kind hi (omega (arith, leb-true 16 kind (and_parts (leb 16 kind) (leb kind 18) e).0))) (and-false (leb lo kind))
 
 -- and so such a kind is no part's
 pub no_part : (is : ℕ → Bool) → NoPart is → (kind : ℕ) → is kind ≡ true → is_part kind ≡ false
@@ -188,7 +182,7 @@ bit_or (Some x) y a b = a
 output_rule : (n context a b : ℕ) → 4 < context → record_ok n context 18 a b ≡ true → b ≤ 1
 unfolding record_ok
 output_rule n context a b h e =
-    let last : cond (leb context 4) (handle b) (leb b 1) ≡ true = (and-true (ltb 0 context && eqb a 0) (cond (leb context 4) (handle b) (leb b 1)) e).1 in
+    let last : cond (leb context 4) (handle b) (leb b 1) ≡ true = (and_parts (ltb 0 context && eqb a 0) (cond (leb context 4) (handle b) (leb b 1)) e).1 in
     leb-true b 1 (rw (lt-leb context 4 h) at last)
 
 -- the last output of an agreement's answer
@@ -243,7 +237,7 @@ pub heard_answer : (n k p : ℕ) (r : Rec) (rs : List Rec) → Instance k → Go
 unfolding GoodFrom first_taken is_asked
 heard_answer n k p r rs i g ek eb na =
     let ok : record_ok n g.context k r.a p ≡ true = rw (ek, eb) at g.good.0 in
-    let two = and-true (leb r.a 1) (ltb p n) (rw (i.rule n g.context r.a p) at ok) in
+    let two = and_parts (leb r.a 1) (ltb p n) (rw (i.rule n g.context r.a p) at ok) in
     let one : r.a ≡ 1 = omega (arith, leb-true r.a 1 two.0) in
     let rest : GoodFrom n k rs = rw (ek, one, i.opens g.context) at g.good.1 in
     record {

@@ -29,25 +29,25 @@ part_entries content proposer kind a b =
     (cond (eqb kind fault_part) (fault (fault_kind content) a b ∷ []) [])
 
 -- the output of one part: the b of an 18
-unfoldable pub output_of : ℕ → ℕ → (Option ℕ)
+unfoldable pub output_of : ℕ → ℕ → Option ℕ
 output_of kind b = cond (eqb kind output_part) (Some b) None
 
 -- "Of several outputs the last counts, as `pop` does"
-unfoldable pub last_of : (Option ℕ) → (Option ℕ) → (Option ℕ)
+unfoldable pub last_of : Option ℕ → Option ℕ → Option ℕ
 last_of earlier None = earlier
 last_of earlier (Some b) = Some b
 
-unfoldable pub last_output : (Option ℕ) → ℕ → ℕ → (Option ℕ)
+unfoldable pub last_output : Option ℕ → ℕ → ℕ → Option ℕ
 last_output output kind b = last_of output (output_of kind b)
 
 -- what parts come to: the last output, where the reader stands, and the entries
 pub record PartsTold : Type 0 where
-  pub output : (Option ℕ)
+  pub output : Option ℕ
   pub tape : Tape
   pub log : List Entry
 
 -- the parts from here on, where `output` is the last so far and the reader stands at place i
-unfoldable pub parts_from : Content → ℕ → (Option ℕ) → ℕ → List Rec → PartsTold
+unfoldable pub parts_from : Content → ℕ → Option ℕ → ℕ → List Rec → PartsTold
 parts_from content proposer output i [] = record { output = output; tape = tape i []; log = [] }
 parts_from content proposer output i (r ∷ rs) =
     elim (is_part r.kind) [

@@ -13,7 +13,7 @@ use borrow.Author.Tests.{eq-eqb, ne_eqb}
 use Rattle.steps.specs.Bits.{has_bit, count_bits, bits_from}
 use Rattle.proposal.specs.declared.ProposalState.{ProposalState}
 use Rattle.proposal.specs.declared.ProposalState.TheVariants.{Ongoing, HasValue, Accepted, Complete}
-use Rattle.subset.specs.Words.{record_length, tag_ongoing, tag_has_value, tag_accepted, tag_complete_false, tag_complete_true, proposal_of, proposal_tag, proposal_in, load_proposal}
+use Rattle.subset.specs.Words.{record_length, tag_ongoing, tag_has_value, tag_accepted, tag_complete_false, tag_complete_true, proposal_of, proposal_tag, proposal_in}
 use Rattle.proposal.specs.Proposal.{received, accepted, complete, asks_agreement}
 use Rattle.subset.specs.Subset.{count_from, complete_from, received_proposals, count_accepted, all_complete}
 use Rattle.subset.specs.Bits.{tag_in, accepted_tags, received_tags, undecided_tags, incomplete_tags, proposals_in}
@@ -184,14 +184,10 @@ module _ (set : ℕ) (is : ProposalState → Bool) (means : Means set is) where
     counted zero p = refl
     counted (suc m) p = rw (at_means p, counted m (p + 1))
 
-    -- the word has the bits of these proposals and no others,
+    -- the word has the bits of these proposals, and none from n on (`bits_below`),
     pub proposals_has : (p : ℕ) → p < n → has_bit (proposals_in size set n w) p ≡ is (proposal_in size w p)
     unfolding proposals_in
     proposals_has p l = bits_has _ n p l ∙ at_means p
-
-    pub proposals_below : proposals_in size set n w < 2 ^ n
-    unfolding proposals_in
-    proposals_below = bits_below _ n
 
     -- and its ones are as many as they are
     pub proposals_ones : ones (proposals_in size set n w) ≡ count_from size is n 0 w
@@ -205,11 +201,6 @@ module _ (n : ℕ) (w : List ℕ) where
 
   pub received_ones : ones (proposals_in (record_length n) received_tags n w) ≡ received_proposals n w
   received_ones = proposals_ones received_tags received received_means (record_length n) n w
-
-  -- proposer p is asked about in a round of votes
-  pub undecided_has : (p : ℕ) → p < n → has_bit (proposals_in (record_length n) undecided_tags n w) p ≡ asks_agreement (load_proposal n w p)
-  unfolding load_proposal
-  undecided_has p l = proposals_has undecided_tags asks_agreement undecided_means (record_length n) n w p l
 
   -- all are complete where the incomplete ones are none
   pub incomplete_none : eqb (proposals_in (record_length n) incomplete_tags n w) 0 ≡ all_complete n w

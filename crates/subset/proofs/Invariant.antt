@@ -31,7 +31,7 @@ is_out v d q = is_there (output_of (v q) (d q))
 abbrev pub is_new : (ℕ → Bool) → (ℕ → Option ℕ) → (ℕ → Option ℕ) → ℕ → Bool
 is_new old v d q = is_out v d q && not (old q)
 
-there : (o : Option ℕ) (x : ℕ) → o ≡ Some x → is_there o ≡ true
+pub there : (o : Option ℕ) (x : ℕ) → o ≡ Some x → is_there o ≡ true
 unfolding is_there
 there o x e = rw e
 

@@ -5,15 +5,16 @@ use mathlib.Core.List.{List, [], ◌∷◌}
 use mathlib.Core.Bool.{Bool, true, false, cond}
 use Rattle.std.specs.Prelude.{Option, None, Some}
 use native.Mathlib.Omega.{arith}
-use native.Mathlib.Nat.{mul-add-mod_self_right, mod-eq_of_lt, two-pow-succ}
+use native.Mathlib.Nat.{mul-add-mod_self_right, mod-eq_of_lt}
 use lib.ListN.{get_or, set, get_or-eq_default}
 use lib.Dec.{ltb, eqb}
 use borrow.Author.Tests.{le-ltb, lt-ltb, ltb-true}
+use lib.Pow.{pow_pos}
 use Rattle.steps.specs.declared.reader.Content.{Content}
 use Rattle.network.specs.declared.network_info.NetworkInfo.{NetworkInfo}
 use Rattle.steps.specs.Answers.{Tape}
 use Rattle.steps.specs.Runs.{Run}
-use Rattle.steps.proofs.Ranges.{AllSmall, Kept, Any, SmallOption, SmallOutput, kept_any, small, keeping, within_below, kept_inside, Below, below_set}
+use Rattle.steps.proofs.Ranges.{AllSmall, Kept, Any, SmallOption, kept_any, small, keeping, within_below, kept_inside, Below, below_set}
 use Rattle.proposal.specs.declared.ProposalState.{ProposalState}
 use Rattle.proposal.specs.declared.ProposalState.TheVariants.{Ongoing, HasValue, Accepted, Complete}
 use Rattle.subset.specs.Words.{record_length, epoch_length, decided_at, count_at, record_at, value_at, arrival_at, proposal_of, tag_of, value_of, load_proposal, store_proposal, add_contribution, drop_from}
@@ -50,14 +51,10 @@ module _ (n p j : ℕ) where
 pub limit_share : (n p s : ℕ) → s < n → limit_at n (record_at n p (8 + s)) ≡ 0x1_0000_0000
 limit_share n p s l = limit_field n p (8 + s) (omega arith) ∙ get_or-eq_default (5 ∷ 0x1_0000_0000 ∷ 3 ∷ 0x1_0000_0000 ∷ 0x1_0000_0000 ∷ 2 ∷ 2 ∷ n ∷ []) 0x1_0000_0000 {n = 8 + s} (omega arith)
 
-pub two_some : (n : ℕ) → 0 < 2 ^ n
-two_some zero = omega arith
-two_some (suc n) = omega (arith, two-pow-succ n, two_some n)
-
 own_some : (n i : ℕ) → 0 < own_limit n i
 own_some n zero = omega arith
 own_some n (suc zero) = omega arith
-own_some n (suc (suc zero)) = two_some n
+own_some n (suc (suc zero)) = pow_pos n
 own_some n (suc (suc (suc zero))) = omega arith
 own_some n (suc (suc (suc (suc i)))) = omega arith
 
@@ -107,7 +104,7 @@ moved_cond : (x : Bool) (m k : Moved) → MovedOk m → MovedOk k → MovedOk (c
 moved_cond true m k f g = f
 moved_cond false m k f g = g
 
-agreement_moves : (s : ProposalState) (out : (Option ℕ)) → ProposalOk s → MovedOk (after_agreement s out)
+agreement_moves : (s : ProposalState) (out : Option ℕ) → ProposalOk s → MovedOk (after_agreement s out)
 unfolding after_agreement ProposalOk SmallOption
 agreement_moves Ongoing None h = record { state = tt; value = tt }
 agreement_moves Ongoing (Some d) h = moved_cond (eqb d 0) _ _ (record { state = tt; value = tt }) (record { state = tt; value = tt })
@@ -116,7 +113,7 @@ agreement_moves (HasValue v) (Some d) h = moved_cond (eqb d 0) _ _ (record { sta
 agreement_moves Accepted out h = record { state = tt; value = tt }
 agreement_moves (Complete b) out h = record { state = tt; value = tt }
 
-broadcast_moves : (s : ProposalState) (out : (Option ℕ)) → ProposalOk s → SmallOutput out → MovedOk (after_broadcast s out)
+broadcast_moves : (s : ProposalState) (out : Option ℕ) → ProposalOk s → SmallOption out → MovedOk (after_broadcast s out)
 unfolding after_broadcast ProposalOk SmallOption
 broadcast_moves Ongoing None h o = record { state = tt; value = tt }
 broadcast_moves Ongoing (Some v) h o = record { state = o; value = tt }

@@ -11,6 +11,7 @@ use lib.ListN.{get_or, replicate, length-set, length-replicate}
 use lib.Seq.{get_or-set_other}
 use lib.Dec.{eqb}
 use borrow.Author.Tests.{eqb-true, eqb-false}
+use Rattle.std.proofs.lemmas.Bool.{and_parts}
 use Rattle.network.specs.declared.network_info.NetworkInfo.{NetworkInfo}
 use Rattle.network.specs.Network.{Network}
 use Rattle.steps.specs.Answers.{Rec, Tape, tape_of}
@@ -18,11 +19,11 @@ use Rattle.steps.specs.Table.{table_ok}
 use Rattle.steps.specs.Taken.{or_else, is_there, first_taken, of_value, of_decision}
 use Rattle.steps.specs.Steps.{Entry}
 use Rattle.steps.specs.Runs.{Verdict, going, refused, failed}
-use Rattle.steps.proofs.ChainLaws.{and-true}
 use Rattle.steps.proofs.TakenFromChain.{or_else_none, or_else_assoc, Bit, table_good}
 use Rattle.subset.specs.Words.{new_epoch, epoch_length, decided_at, count_at, proposal_at, value_at, arrival_at, proposal_of, load_proposal}
 use Rattle.subset.specs.Rule.{settled_from, is_over, SubsetEvent, answers, tables_ok, taken_by, run_of, words_as, then_words, words_after, Contribution, contributions_from, contributions, speaks, SubsetRule}
 use Rattle.steps.proofs.GivenWithLog.{GivesAs}
+use Rattle.steps.proofs.Ranges.{zeros_at}
 use Rattle.proposal.proofs.TakenByProposal.{output_of}
 use Rattle.subset.proofs.Counts.{count_if}
 use Rattle.subset.proofs.Invariant.{Held, is_new}
@@ -103,7 +104,7 @@ run_known net (x ∷ xs) w v d w' k t e =
     go (words_of net w x) refl e (λ w₁ k₁ f. run_known net xs w₁ (after of_value v (answers x)) (after of_decision d (answers x)) w' k₁ ok.1 f)
   where
     ok : (table_ok net.num_nodes x.table ≡ true) × (tables_ok net.num_nodes xs ≡ true)
-    ok = and-true (table_ok net.num_nodes x.table) (tables_ok net.num_nodes xs) t
+    ok = and_parts (table_ok net.num_nodes x.table) (tables_ok net.num_nodes xs) t
 
     go : (o : Option (List ℕ)) → words_of net w x ≡ o → then_words net o (λ w. words_after net w xs) ≡ Some w'
         → ((w₁ : List ℕ) → Known net w₁ (after of_value v (answers x)) (after of_decision d (answers x)) → words_after net w₁ xs ≡ Some w'
@@ -138,9 +139,9 @@ run_split net (y ∷ ys) w x w' e = go (words_of net w y) refl e (λ w₁ f. run
 
 tables_split : (n : ℕ) (h : List SubsetEvent) (x : SubsetEvent) → tables_ok n (h ++ (x ∷ [])) ≡ true → (tables_ok n h ≡ true) × (table_ok n x.table ≡ true)
 unfolding tables_ok
-tables_split n [] x t = (refl, (and-true (table_ok n x.table) true t).0)
+tables_split n [] x t = (refl, (and_parts (table_ok n x.table) true t).0)
 tables_split n (y ∷ ys) x t =
-    let a = and-true (table_ok n y.table) (tables_ok n (ys ++ (x ∷ []))) t in
+    let a = and_parts (table_ok n y.table) (tables_ok n (ys ++ (x ∷ []))) t in
     let b = tables_split n ys x a.1 in
     (rw a.0 b.0, b.1)
 
@@ -150,11 +151,6 @@ taken_last is [] x q = sym (or_else_none (first_taken is q (answers x)))
 taken_last is (y ∷ ys) x q = or_else_assoc (first_taken is q (answers y)) (taken_by is ys q) (first_taken is q (answers x)) ∙ ap (or_else (first_taken is q (answers y))) (taken_last is ys x q)
 
 -- THE BLANK EPOCH
-zeros : (m i : ℕ) → get_or {A = ℕ} (replicate m 0) i 0 ≡ 0
-zeros zero i = refl
-zeros (suc m) zero = refl
-zeros (suc m) (suc i) = zeros m i
-
 count_none : (old : ℕ → Bool) (m i : ℕ) → count_if (is_new old nothing nothing) m i ≡ 0
 unfolding count_if is_there
 count_none old zero i = refl
@@ -171,7 +167,7 @@ new_over net k = rw (unsettled net.num_nodes 0 k.some)
 
 pub new_word : (n i : ℕ) → (i ≡ 0 → ⊥) → get_or (new_epoch n) i 0 ≡ 0
 unfolding new_epoch
-new_word n i ne = get_or-set_other (replicate (epoch_length n) 0) 0 i 1 0 ne ∙ zeros (epoch_length n) i
+new_word n i ne = get_or-set_other (replicate (epoch_length n) 0) 0 i 1 0 ne ∙ zeros_at (epoch_length n) i
 
 pub new_held : (old : ℕ → Bool) → ((q : ℕ) → old q ≡ false) → (n : ℕ) → Held old n (new_epoch n) nothing nothing
 unfolding new_epoch load_proposal proposal_of is_there Bit

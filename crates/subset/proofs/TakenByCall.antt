@@ -10,6 +10,8 @@ use lib.ListN.{get_or, set, length-set}
 use lib.Seq.{get_or-set_same, get_or-set_other}
 use lib.Dec.{eqb, ltb}
 use borrow.Author.Tests.{eqb-true, eqb-false, ne_eqb, ltb-true, ltb-false, le-leb, lt-leb}
+use Rattle.std.proofs.Math.Bool.{and-false, and-true, or-false, or_assoc}
+use Rattle.std.proofs.lemmas.Bool.{or_cases}
 use Rattle.steps.specs.declared.reader.Content.TheVariants.{Broadcast, Agreement}
 use Rattle.network.specs.declared.network_info.NetworkInfo.{NetworkInfo}
 use Rattle.network.specs.Network.{is_validator, num_correct}
@@ -28,7 +30,7 @@ use Rattle.steps.proofs.AfterRun.{Afterwards, after_map, after_onward, after_ins
 use Rattle.proposal.proofs.TakenByProposal.{state_of, output_of, instance_ok, Agreed, agreement_ok, Went, went_agreed, Broadcasts, broadcast_ok}
 use Rattle.subset.proofs.Invariant.{Held, held_move}
 use Rattle.subset.proofs.TakenTests.{put_same, put_other, more, grown_more, link_more, Linked, linked_same, linked_then, ones_grow, over_grows, over_decided, accepted_ones, complete_settled}
-use Rattle.subset.proofs.VotesAsked.{and_no, and_yes, or_assoc, or_cases, or_no, Still, still_same, still_then, still_vote, untold_same, Opened, Voted, opened_none, opened_after, voted_still}
+use Rattle.subset.proofs.VotesAsked.{Still, still_same, still_then, still_vote, untold_same, Opened, Voted, opened_none, opened_after, voted_still}
 
 -- of the contributions some are old: they have been taken out of the list
 module _ (old : ℕ → Bool) where
@@ -69,12 +71,12 @@ module _ (old : ℕ → Bool) where
   }
     where
       votes1 : (q : ℕ) (y : Bool) → eqb p q ≡ y → t.asks 6 && y ≡ (is_there (cond y (t.took of_value) None) && not (is_there (d q)))
-      votes1 q true y = rw (← eqb-true p q y, and_yes (t.asks 6)) t.six
-      votes1 q false y = and_no (t.asks 6)
+      votes1 q true y = rw (← eqb-true p q y, and-true (t.asks 6)) t.six
+      votes1 q false y = and-false (t.asks 6)
 
       by : (P : ℕ → Type 0) (q : ℕ) (x z y : Bool) → eqb p q ≡ y → (x && y ≡ true) ⊎ (z ≡ true) → (x ≡ true → P p) → P q ⊎ (z ≡ true)
-      by P q x z true e (inl a) f = inl (rw (← eqb-true p q e) (f (sym (and_yes x) ∙ a)))
-      by P q x z false e (inl a) f = absurd (false≢true (sym (and_no x) ∙ a))
+      by P q x z true e (inl a) f = inl (rw (← eqb-true p q e) (f (sym (and-true x) ∙ a)))
+      by P q x z false e (inl a) f = absurd (false≢true (sym (and-false x) ∙ a))
       by P q x z y e (inr b) f = inr b
 
   begun_went : (n p : ℕ) (v d : ℕ → Option ℕ) (w : List ℕ) (ws : List Rec) (o : Option ℕ) (s : ProposalState) (r : List Rec)
@@ -143,7 +145,7 @@ module _ (old : ℕ → Bool) where
         };
         still = still_vote n p ws a.answer r a.heard;
         others = λ q ne. put_other d p _ q ne;
-        asks = λ q. a.heard.asking 7 refl q ∙ rw (e, and_yes (eqb p q));
+        asks = λ q. a.heard.asking 7 refl q ∙ rw (e, and-true (eqb p q));
       }
 
   -- THE ROUND of votes 0, for the m proposers from i on
@@ -185,7 +187,7 @@ module _ (old : ℕ → Bool) where
     linked = linked_then a.linked b.linked;
     still = still_then a.still b.still;
     votes = λ q. (eqb i q && not (is_there (d i))) || b.votes q;
-    asks = λ q. a.asks q ∙ ap (λ x. (eqb i q && not (is_there (d i))) || x) (b.asks q) ∙ or_assoc (eqb i q && not (is_there (d i))) (b.votes q) (is_asked 7 q z);
+    asks = λ q. a.asks q ∙ ap (λ x. (eqb i q && not (is_there (d i))) || x) (b.asks q) ∙ sym (or_assoc (eqb i q && not (is_there (d i))) (b.votes q) (is_asked 7 q z));
     among = λ q l h. go q l h (eqb i q) refl;
     below = λ q l. rw (ne_eqb i q (λ e. omega arith)) (b.below q (omega arith));
     beyond = λ q l. rw (ne_eqb i q (λ e. omega arith)) (b.beyond q (omega arith));
@@ -194,7 +196,7 @@ module _ (old : ℕ → Bool) where
       go : (q : ℕ) → i ≤ q → q < i + suc m → (x : Bool) → eqb i q ≡ x → (x && not (is_there (d i))) || b.votes q ≡ not (is_there (d q))
       go q l h true x =
           let y : i ≡ q = eqb-true i q x in
-          rw (y, b.below q (omega arith)) (or_no (not (is_there (d q))))
+          rw (y, b.below q (omega arith)) (or-false (not (is_there (d q))))
       go q l h false x =
           let ne : i ≡ q → ⊥ = eqb-false i q x in
           b.among q (omega arith) (omega arith) ∙ ap (λ o. not (is_there o)) (a.others q (λ e. ne (sym e)))
@@ -305,7 +307,7 @@ module _ (old : ℕ → Bool) where
             linked = linked_same v d u.rest;
             still = still_same u.rest;
             others = λ q ne. refl;
-            asks = λ q. rw (decided_there (v p) (d p) (rw (h.load p inside) at a), and_no (eqb p q));
+            asks = λ q. rw (decided_there (v p) (d p) (rw (h.load p inside) at a), and-false (eqb p q));
           }
 
     votes_from : (m i : ℕ) (w : List ℕ) (v d : ℕ → Option ℕ) → Held old n w v d → (u : Tape) → Good n u.rest → i + m ≤ n
@@ -322,11 +324,11 @@ module _ (old : ℕ → Bool) where
   module _ (net : NetworkInfo) (v d : ℕ → Option ℕ) where
     over_few : ones_from d net.num_nodes 0 < num_correct net → is_over net v d ≡ false
     unfolding is_over
-    over_few h = rw (lt-leb (num_correct net) (ones_from d net.num_nodes 0) h) (and_no (settled_from v d net.num_nodes 0))
+    over_few h = rw (lt-leb (num_correct net) (ones_from d net.num_nodes 0) h) (and-false (settled_from v d net.num_nodes 0))
 
     over_many : num_correct net ≤ ones_from d net.num_nodes 0 → is_over net v d ≡ settled_from v d net.num_nodes 0
     unfolding is_over
-    over_many h = rw (le-leb (num_correct net) (ones_from d net.num_nodes 0) h) (and_yes (settled_from v d net.num_nodes 0))
+    over_many h = rw (le-leb (num_correct net) (ones_from d net.num_nodes 0) h) (and-true (settled_from v d net.num_nodes 0))
 
   held_done : (n : ℕ) (w : List ℕ) (v d : ℕ → Option ℕ) → Held old n w v d → Held old n (set w decided_at 1) v d
   unfolding load_proposal
@@ -388,7 +390,7 @@ module _ (old : ℕ → Bool) where
       says = λ f. absurd (false≢true (sym f));
       linked = linked_same v d u.rest;
       still = still_same u.rest;
-      asks = λ q l. rw (over_decided net v d (o refl) q l, and_no (eqb (ones_from d m 0) (num_correct net)));
+      asks = λ q l. rw (over_decided net v d (o refl) q l, and-false (eqb (ones_from d m 0) (num_correct net)));
     })
     try_ok false o e = rw (e, accepted_ones old m w v d h m 0 (omega arith)) (go (ltb (ones_from d m 0) (num_correct net)) refl)
       where

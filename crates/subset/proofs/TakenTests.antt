@@ -7,11 +7,12 @@ use Rattle.std.specs.Prelude.{Option, None, Some}
 use native.Mathlib.Omega.{arith}
 use lib.Dec.{eqb, leb}
 use borrow.Author.Tests.{eqb-true, eqb-false, eq-eqb, ne_eqb, leb-true, le-leb}
+use Rattle.std.proofs.lemmas.Bool.{and_parts, or_left, and_from}
+use Rattle.std.proofs.Math.Bool.{or-true, or-false}
 use Rattle.network.specs.declared.network_info.NetworkInfo.{NetworkInfo}
 use Rattle.network.specs.Network.{num_correct}
 use Rattle.steps.specs.Answers.{Rec}
 use Rattle.steps.specs.Taken.{or_else, is_there, is_true, first_taken, of_value, of_decision, ones_from}
-use Rattle.steps.proofs.ChainLaws.{and-true}
 use Rattle.steps.proofs.TakenFromChain.{or_else_assoc, Bit}
 use Rattle.subset.specs.Words.{record_length, load_proposal}
 use Rattle.proposal.specs.Proposal.{accepted, complete}
@@ -80,39 +81,24 @@ linked_then a b = record {
 abbrev pub cell : Option ℕ → Option ℕ → Bool
 cell v d = is_there d && (not (is_true d) || is_there v)
 
-or_true : (x : Bool) → x || true ≡ true
-or_true true = refl
-or_true false = refl
-
-or_false : (x : Bool) → x || false ≡ true → x ≡ true
-or_false true e = refl
-or_false false e = e
-
-or_left : (x y : Bool) → x ≡ true → x || y ≡ true
-or_left true y e = refl
-or_left false y e = absurd (false≢true e)
-
 cell_grows : (v d v' d' : Option ℕ) → Grown v v' → Grown d d' → cell v d ≡ true → cell v' d' ≡ true
 unfolding is_there
 cell_grows v None v' d' f g e = absurd (false≢true e)
-cell_grows None (Some y) v' d' f g e = rw (g y refl) (or_left (not (is_true (Some y))) (is_there v') (or_false (not (is_true (Some y))) e))
-cell_grows (Some x) (Some y) v' d' f g e = rw (g y refl, f x refl) (or_true (not (is_true (Some y))))
+cell_grows None (Some y) v' d' f g e = rw (g y refl) (or_left (not (is_true (Some y))) (is_there v') (sym (or-false (not (is_true (Some y)))) ∙ e))
+cell_grows (Some x) (Some y) v' d' f g e = rw (g y refl, f x refl) (or-true (not (is_true (Some y))))
 
 true_grows : (d d' : Option ℕ) → Grown d d' → is_true d ≡ true → is_true d' ≡ true
 unfolding is_true
 true_grows None d' g e = absurd (false≢true e)
 true_grows (Some y) d' g e = rw (g y refl) e
 
-both : (x y : Bool) → x ≡ true → y ≡ true → x && y ≡ true
-both x y a b = rw a b
-
 module _ (v d v' d' : ℕ → Option ℕ) (gv : (q : ℕ) → Grown (v q) (v' q)) (gd : (q : ℕ) → Grown (d q) (d' q)) where
   settled_grows : (m p : ℕ) → settled_from v d m p ≡ true → settled_from v' d' m p ≡ true
   unfolding settled_from
   settled_grows zero p e = refl
   settled_grows (suc m) p e =
-      let h = and-true (cell (v p) (d p)) (settled_from v d m (p + 1)) e in
-      both (cell (v' p) (d' p)) (settled_from v' d' m (p + 1)) (cell_grows (v p) (d p) (v' p) (d' p) (gv p) (gd p) h.0) (settled_grows m (p + 1) h.1)
+      let h = and_parts (cell (v p) (d p)) (settled_from v d m (p + 1)) e in
+      and_from (cell (v' p) (d' p)) (settled_from v' d' m (p + 1)) (cell_grows (v p) (d p) (v' p) (d' p) (gv p) (gd p) h.0) (settled_grows m (p + 1) h.1)
 
   pub ones_grow : (m p : ℕ) → ones_from d m p ≤ ones_from d' m p
   ones_grow m p = rw (ones_if d m p, ones_if d' m p) (count_rises _ _ (λ q. true_grows (d q) (d' q) (gd q)) m p)
@@ -121,9 +107,9 @@ module _ (v d v' d' : ℕ → Option ℕ) (gv : (q : ℕ) → Grown (v q) (v' q)
   unfolding is_over
   over_grows net e =
       let n = net.num_nodes in
-      let h = and-true (settled_from v d n 0) (leb (num_correct net) (ones_from d n 0)) e in
+      let h = and_parts (settled_from v d n 0) (leb (num_correct net) (ones_from d n 0)) e in
       let o = leb-true (num_correct net) (ones_from d n 0) h.1 in
-      both (settled_from v' d' n 0) (leb (num_correct net) (ones_from d' n 0)) (settled_grows n 0 h.0) (le-leb (num_correct net) (ones_from d' n 0) (omega (arith, ones_grow n 0)))
+      and_from (settled_from v' d' n 0) (leb (num_correct net) (ones_from d' n 0)) (settled_grows n 0 h.0) (le-leb (num_correct net) (ones_from d' n 0) (omega (arith, ones_grow n 0)))
 
 -- WHAT IS SETTLED, proposer by proposer
 pub settled_cell : (v d : ℕ → Option ℕ) (m p : ℕ) → settled_from v d m p ≡ true → (q : ℕ) → p ≤ q → q < p + m → cell (v q) (d q) ≡ true
@@ -132,18 +118,18 @@ settled_cell v d zero p e q l h = absurd (omega arith)
 settled_cell v d (suc m) p e q l h = go (eqb q p) refl (settled_cell v d m (p + 1) two.1 q)
   where
     two : (cell (v p) (d p) ≡ true) × (settled_from v d m (p + 1) ≡ true)
-    two = and-true (cell (v p) (d p)) (settled_from v d m (p + 1)) e
+    two = and_parts (cell (v p) (d p)) (settled_from v d m (p + 1)) e
 
     go : (x : Bool) → eqb q p ≡ x → (p + 1 ≤ q → q < p + 1 + m → cell (v q) (d q) ≡ true) → cell (v q) (d q) ≡ true
     go true y f = rw (eqb-true q p y) two.0
     go false y f = let ne = eqb-false q p y in f (omega arith) (omega arith)
 
 pub settled_decided : (v d : ℕ → Option ℕ) (m : ℕ) → settled_from v d m 0 ≡ true → (q : ℕ) → q < m → is_there (d q) ≡ true
-settled_decided v d m e q l = (and-true (is_there (d q)) (not (is_true (d q)) || is_there (v q)) (settled_cell v d m 0 e q (omega arith) (omega arith))).0
+settled_decided v d m e q l = (and_parts (is_there (d q)) (not (is_true (d q)) || is_there (v q)) (settled_cell v d m 0 e q (omega arith) (omega arith))).0
 
 pub over_decided : (net : NetworkInfo) (v d : ℕ → Option ℕ) → is_over net v d ≡ true → (q : ℕ) → q < net.num_nodes → is_there (d q) ≡ true
 unfolding is_over
-over_decided net v d e = settled_decided v d net.num_nodes (and-true (settled_from v d net.num_nodes 0) (leb (num_correct net) (ones_from d net.num_nodes 0)) e).0
+over_decided net v d e = settled_decided v d net.num_nodes (and_parts (settled_from v d net.num_nodes 0) (leb (num_correct net) (ones_from d net.num_nodes 0)) e).0
 
 pub ones_same : (d d' : ℕ → Option ℕ) → ((q : ℕ) → d q ≡ d' q) → (m i : ℕ) → ones_from d m i ≡ ones_from d' m i
 unfolding ones_from

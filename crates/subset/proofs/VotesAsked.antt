@@ -8,12 +8,13 @@ use Rattle.std.specs.Prelude.{Option, None, Some}
 use native.Mathlib.Omega.{arith}
 use lib.Dec.{eqb, leb}
 use borrow.Author.Tests.{leb-true, le-leb}
+use Rattle.std.proofs.lemmas.Bool.{and_parts}
+use Rattle.std.proofs.Math.Bool.{or-false}
 use Rattle.network.specs.declared.network_info.NetworkInfo.{NetworkInfo}
 use Rattle.network.specs.Network.{num_correct}
 use Rattle.steps.specs.Answers.{Rec}
 use Rattle.steps.specs.Table.{within}
 use Rattle.steps.specs.Taken.{or_else, is_there, first_taken, of_value, is_asked, ones_from}
-use Rattle.steps.proofs.ChainLaws.{and-true}
 use Rattle.steps.proofs.TakenFromChain.{or_else_none, no_part, apart, low_no_part, Heard}
 use Rattle.steps.proofs.GivenWithLog.{Neither}
 use Rattle.steps.proofs.ReadByKinds.{Past, Others, past_first, past_asked}
@@ -22,7 +23,7 @@ use Rattle.subset.proofs.TakenTests.{ones_same}
 -- kinds of a range are of a wider one
 wider : (lo hi lo' hi' k : ℕ) → lo' ≤ lo → hi ≤ hi' → within lo hi k ≡ true → within lo' hi' k ≡ true
 wider lo hi lo' hi' k a b e =
-    let t = and-true (leb lo k) (leb k hi) e in
+    let t = and_parts (leb lo k) (leb k hi) e in
     rw (le-leb lo' k (omega (arith, leb-true lo k t.0)), le-leb k hi' (omega (arith, leb-true k hi t.1)))
 
 pub value_low : (k : ℕ) → of_value k ≡ true → within 3 6 k ≡ true
@@ -38,27 +39,6 @@ none_of of f k e = go (of k) refl
     go : (x : Bool) → of k ≡ x → x ≡ false
     go true z = absurd (false≢true (sym e ∙ f k z))
     go false z = refl
-
--- TESTS
-pub and_no : (x : Bool) → x && false ≡ false
-and_no true = refl
-and_no false = refl
-
-pub and_yes : (x : Bool) → x && true ≡ x
-and_yes true = refl
-and_yes false = refl
-
-pub or_assoc : (x y z : Bool) → x || (y || z) ≡ (x || y) || z
-or_assoc true y z = refl
-or_assoc false y z = refl
-
-pub or_cases : (x y : Bool) → x || y ≡ true → (x ≡ true) ⊎ (y ≡ true)
-or_cases true y e = inl refl
-or_cases false y e = inr e
-
-pub or_no : (x : Bool) → x || false ≡ x
-or_no true = refl
-or_no false = refl
 
 -- NOTHING ASKED FOR, votes 0 apart, and no value and no decision of a 5 or 6 told, between ws and r
 pub record Still (ws r : List Rec) : Type 0 where
@@ -204,8 +184,8 @@ unfolding first_taken is_asked or_else
 voted_whole net speaks v d ws k =
     let before : (p : ℕ) → or_else (d p) (first_taken (within 5 6) p ws) ≡ k.before p = λ p. k.early p ∙ or_else_none (k.before p) in
     record {
-      one = λ q. k.opened.one q ∙ or_no _ ∙ ap (λ x. is_there x && not (is_there (d q))) (sym (k.opened.value q ∙ or_else_none (k.opened.came q)));
-      zero = λ q l. rw (ones_same _ k.before before net.num_nodes 0, before q) (k.zero q l ∙ or_no _);
+      one = λ q. k.opened.one q ∙ or-false _ ∙ ap (λ x. is_there x && not (is_there (d q))) (sym (k.opened.value q ∙ or_else_none (k.opened.came q)));
+      zero = λ q l. rw (ones_same _ k.before before net.num_nodes 0, before q) (k.zero q l ∙ or-false _);
       broadcast = λ j q e a. ended (k.opened.broadcast j q e a);
       agreement = λ q a. ended (k.opened.agreement q a);
     }

@@ -1,20 +1,17 @@
 -- The words of bits and the words of an epoch, as the code makes them. Assumes nothing.
 use Prim.Native.Nat.{ℕ, suc, ◌+◌, ◌-◌, ◌*◌, ◌%◌, ◌^◌, ◌≤◌, ◌<◌}
 use native.Mathlib.Omega.{arith}
-use mathlib.Core.Path.{◌≡◌, ◌∙◌}
+use mathlib.Core.Path.{◌≡◌}
 use mathlib.Core.Bool.{Bool, true, false, cond}
 use mir.Val.{bool_byte}
-use lib.Pow.{shl_exact, pow_mono}
+use lib.Pow.{pow_mono}
+use Rattle.std.proofs.lemmas.Nat.{one_shl}
 use Rattle.steps.specs.Bits.{bits_from}
 use Rattle.subset.proofs.Bits.{bits_below}
 
--- two to a number below 64, as the shift has it
-pub shifted : (i : ℕ) → i < 64 → 1 * 2 ^ i % 18446744073709551616 ≡ 2 ^ i
-shifted i h = shl_exact 1 i 64 (omega arith) (omega arith) ∙ omega arith
-
 -- a bit, as the code makes it of a test
 pub bit_of : (r p : ℕ) (t u : Bool) → r ≡ bool_byte t → t ≡ u → p < 64 → r * 2 ^ p % 18446744073709551616 ≡ cond u (2 ^ p) 0
-bit_of r p true u e f h = rw (e, ← f) (shifted p h)
+bit_of r p true u e f h = rw (e, ← f) (one_shl p 64 h)
 bit_of r p false u e f h = rw (e, ← f) (omega arith)
 
 -- A WORD MADE OF BITS, one bit more
@@ -33,7 +30,3 @@ module _ (is : ℕ → Bool) (n p : ℕ) where
 
 pub bits_small : (is : ℕ → Bool) (n : ℕ) → n ≤ 16 → bits_from is n 0 < 65536
 bits_small is n few = let h : 2 ^ n ≤ 2 ^ 16 = pow_mono few in omega (arith, bits_below is n)
-
--- before the first turn of a loop, n are left
-pub all_left : (n : ℕ) → n - 0 ≡ n
-all_left n = omega arith

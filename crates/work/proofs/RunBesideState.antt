@@ -9,6 +9,7 @@ use lib.Dec.{eqb, ltb}
 use lib.ListN.{length, get_or, set, replicate, length-set, length-replicate}
 use lib.Seq.{get_or-set_other}
 use borrow.Author.Tests.{eqb-true, eqb-false, ltb-false}
+use Rattle.std.proofs.lemmas.Bool.{cond_both}
 use Rattle.steps.specs.Answers.{Answer}
 use Rattle.steps.specs.Answers.{Got, Refused}
 use Rattle.steps.specs.Answers.{Tape, ask}
@@ -16,7 +17,7 @@ use Rattle.steps.specs.Runs.{Verdict, going, refused, failed, Run, ends, before,
 use Rattle.network.specs.declared.network_info.NetworkInfo.{NetworkInfo}
 use Rattle.network.specs.Network.{is_validator}
 use Rattle.steps.specs.Steps.{fault}
-use Rattle.steps.proofs.Logic.{anything, either}
+use Rattle.steps.proofs.Logic.{anything}
 use Rattle.steps.proofs.StateKept.{holding}
 use Rattle.steps.proofs.FailureNumbers.{only_number}
 use Rattle.steps.proofs.RunLaws.{onward_at}
@@ -276,7 +277,7 @@ module _ (w : List ℕ) (ok : state_ok w ≡ true) (p : Tape) where
 
   -- what holds of that run, and of one that does nothing, holds of propose
   pub by_propose_apart : (P : Run (List ℕ) (Unit {0}) → Type 0) → P (inside (committed (set w input_at 1) (current_epoch w)) (propose_work w p)) → P (ends (going tt) w p) → P (propose w p)
-  by_propose_apart P runs none = rw propose_apart (either P (is_validator (net_of w)) _ _ (λ _. runs) (λ _. none))
+  by_propose_apart P runs none = rw propose_apart (cond_both (is_validator (net_of w)) _ _ P (λ _. runs) (λ _. none))
 
   pub propose_counts : fault_count (propose w p).state ≡ fault_count w
   unfolding propose_work
@@ -332,8 +333,8 @@ module _ (w : List ℕ) (ok : state_ok w ≡ true) (p : Tape) where
         → (current_epoch w ≤ epoch → epoch ≤ current_epoch w + ahead w → P (inside (committed w epoch) (message_work sender epoch proposer content w p)))
         → P (before (fault 1 sender 0 ∷ []) (ends (going tt) w p)) → P (ends (going tt) w p) → P (handle_message sender epoch proposer content w p)
     by_message_apart P runs far late =
-        rw message_apart (either P (ltb (current_epoch w + ahead w) epoch) _ _ (λ _. far) (λ a.
-        either P (ltb epoch (current_epoch w)) _ _ (λ _. late) (λ b. runs (ltb-false _ _ b) (ltb-false _ _ a))))
+        rw message_apart (cond_both (ltb (current_epoch w + ahead w) epoch) _ _ P (λ _. far) (λ a.
+        cond_both (ltb epoch (current_epoch w)) _ _ P (λ _. late) (λ b. runs (ltb-false _ _ b) (ltb-false _ _ a))))
 
     pub message_counts : fault_count (handle_message sender epoch proposer content w p).state ≡ fault_count w
     unfolding message_work
