@@ -3,11 +3,10 @@ use Rattle.std.specs.Prelude.{Ok, Err}
 use Prim.Native.Nat.{ℕ, ◌≤◌, ◌<◌}
 use native.Mathlib.Omega.{arith}
 use mathlib.Core.Path.{◌≡◌, refl, sym, ap, ◌∙◌}
-use mathlib.Core.List.{List, ◌++◌}
+use mathlib.Core.List.{List}
 use mathlib.Core.Bool.{Bool, true, false, cond, not, ◌&&◌}
 use lib.Dec.{eqb, leb, ltb}
-use lib.ListN.{length, take, drop, replicate}
-use lib.Seq.{length-take-le}
+use lib.ListN.{length}
 use borrow.Author.Tests.{eqb-true, eq-eqb, ne_eqb, lt-leb, le-leb, lt-ltb, le-ltb, ltb-true, ltb-false, leb-false}
 use Rattle.steps.specs.Numbers.{last_epoch}
 use Rattle.steps.specs.Table.{within, shape_ok, table_ok}
@@ -15,6 +14,8 @@ use Rattle.steps.specs.Answers.{Tape, tape_of}
 use Rattle.steps.proofs.TableCheck.{shape_length}
 use Rattle.epoch.specs.declared.MessageContent.{MessageContent}
 use Rattle.state.specs.State.{nodes, current_epoch, scratch_of, state_ok}
+use Rattle.state.specs.Shape.{StateWords}
+use Rattle.state.proofs.RangeCode.{ok_words}
 use Rattle.state.proofs.Bools.{never, and_right}
 use Rattle.work.specs.declared.honey_badger.Call.TheVariants.{Propose, Message}
 use Rattle.work.specs.HoneyBadger.{propose, handle_message}
@@ -60,7 +61,7 @@ module _ (a b : ℕ) where
       go false z e = never (sym (eq-eqb a 0 e) ∙ z)
 
   -- a reply that the first has not is the second's
-  pub then_past : leaves_scratch (then_check a b) ≡ false → leaves_scratch a ≡ false
+  then_past : leaves_scratch (then_check a b) ≡ false → leaves_scratch a ≡ false
   unfolding then_check
   then_past e = go (eqb a 0) refl e
     where
@@ -137,6 +138,21 @@ module _ (sender content proposer item : ℕ) (state : List ℕ) where
       go true b c x y e = absurd (omega arith)
       go false false c x y e = absurd (omega arith)
       go false true c x y e = (leb-false _ _ x, ltb-true _ _ (and_right (within 1 3 content) _ y))
+
+-- WHAT THE CHECKS LET PASS, whatever follows the first three
+module _ (state : List ℕ) (k : ℕ) (answers : List ℕ) (b : ℕ) where
+  pub passed_words : 0 ≡ then_check (first_checks state k answers) b → StateWords state
+  passed_words e = ok_words state (first_ok state k answers (then_both _ _ (sym e)).0)
+
+  pub passed_room : 0 ≡ then_check (first_checks state k answers) b → scratch_of state ≤ k
+  passed_room e = (first_past state k answers (ap leaves_scratch (then_both _ _ (sym e)).0)).1
+
+  -- turned down, but not by 3 or 4
+  pub turned_past : (r : Refusal) → refusal_number r ≡ then_check (first_checks state k answers) b → leaves_scratch (refusal_number r) ≡ false
+      → StateWords state × (scratch_of state ≤ k)
+  turned_past r e h =
+      let p = first_past state k answers (then_past _ _ (ap leaves_scratch (sym e) ∙ h)) in
+      (ok_words state p.0, p.1)
 
 -- A CALL MAY RUN where its checks answer 0
 module _ (state scratch answers : List ℕ) where
