@@ -13,7 +13,8 @@ use Rattle.steps.specs.Table.{within, shape_ok, table_ok}
 use Rattle.steps.specs.Answers.{Tape, tape_of}
 use Rattle.steps.proofs.TableCheck.{shape_length}
 use Rattle.epoch.specs.declared.MessageContent.{MessageContent}
-use Rattle.state.specs.State.{nodes, current_epoch, scratch_of, state_ok}
+use Rattle.state.proofs.WordsCode.{header_inside}
+use Rattle.state.specs.State.{header_length, nodes, current_epoch, scratch_of, state_ok}
 use Rattle.state.specs.Shape.{StateWords}
 use Rattle.state.proofs.RangeCode.{ok_words}
 use Rattle.state.proofs.Bools.{never, and_right}
@@ -43,9 +44,9 @@ no_success TargetTooHigh e = omega arith
 
 -- TWO CHECKS, one after the other
 module _ (a b : ℕ) where
-  pub then_passed : (k : ℕ) → a ≡ 0 → k ≡ b → k ≡ then_check a b
+  pub then_passed : (k : ℕ) → 0 ≡ a → k ≡ b → k ≡ then_check a b
   unfolding then_check
-  then_passed k z e = rw z e
+  then_passed k z e = rw (← z) e
 
   pub then_refused : (r : Refusal) → refusal_number r ≡ a → refusal_number r ≡ then_check a b
   unfolding then_check
@@ -107,8 +108,11 @@ module _ (state : List ℕ) (scratch : ℕ) (answers : List ℕ) where
       go true true c x y e = never e
       go true false c x y e = (x, ltb-false _ _ y)
 
-  pub first_ok : first_checks state scratch answers ≡ 0 → state_ok state ≡ true
+  first_ok : first_checks state scratch answers ≡ 0 → state_ok state ≡ true
   first_ok e = (first_past (ap (leaves_scratch) e)).0
+
+  pub first_header : 0 ≡ first_checks state scratch answers → header_length ≤ length state
+  first_header e = header_inside state (ok_words state (first_ok (sym e)))
 
   pub first_passed : first_checks state scratch answers ≡ 0 → table_ok (nodes state) answers ≡ true
   unfolding first_checks
