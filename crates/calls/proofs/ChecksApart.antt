@@ -14,7 +14,10 @@ use Rattle.steps.specs.Table.{within, shape_ok, table_ok}
 use Rattle.steps.specs.Answers.{Tape, tape_of}
 use Rattle.steps.proofs.TableCheck.{shape_length}
 use Rattle.epoch.specs.declared.MessageContent.{MessageContent}
-use Rattle.state.specs.State.{nodes, current_epoch, scratch_of, state_ok}
+use Rattle.state.proofs.WordsCode.{header_inside}
+use Rattle.state.specs.State.{header_length, nodes, current_epoch, scratch_of, state_ok}
+use Rattle.state.specs.Shape.{StateWords}
+use Rattle.state.proofs.RangeCode.{ok_words}
 use Rattle.work.specs.declared.honey_badger.Call.TheVariants.{Propose, Message}
 use Rattle.work.specs.HoneyBadger.{propose, handle_message}
 use Rattle.calls.specs.Calls.{After, after, zeroed, conclude, content_ok, item_ok, content_of, propose_after, propose_call, message_call}
@@ -41,9 +44,9 @@ no_success TargetTooHigh e = omega arith
 
 -- TWO CHECKS, one after the other
 module _ (a b : ℕ) where
-  pub then_passed : (k : ℕ) → a ≡ 0 → k ≡ b → k ≡ then_check a b
+  pub then_passed : (k : ℕ) → 0 ≡ a → k ≡ b → k ≡ then_check a b
   unfolding then_check
-  then_passed k z e = rw z e
+  then_passed k z e = rw (← z) e
 
   pub then_refused : (r : Refusal) → refusal_number r ≡ a → refusal_number r ≡ then_check a b
   unfolding then_check
@@ -59,7 +62,7 @@ module _ (a b : ℕ) where
       go false z e = absurd (true≢false (sym (eq-eqb a 0 e) ∙ z))
 
   -- a reply that the first has not is the second's
-  pub then_past : leaves_scratch (then_check a b) ≡ false → leaves_scratch a ≡ false
+  then_past : leaves_scratch (then_check a b) ≡ false → leaves_scratch a ≡ false
   unfolding then_check
   then_past e = go (eqb a 0) refl e
     where
@@ -105,8 +108,11 @@ module _ (state : List ℕ) (scratch : ℕ) (answers : List ℕ) where
       go true true c x y e = absurd (true≢false e)
       go true false c x y e = (x, ltb-false _ _ y)
 
-  pub first_ok : first_checks state scratch answers ≡ 0 → state_ok state ≡ true
+  first_ok : first_checks state scratch answers ≡ 0 → state_ok state ≡ true
   first_ok e = (first_past (ap (leaves_scratch) e)).0
+
+  pub first_header : 0 ≡ first_checks state scratch answers → header_length ≤ length state
+  first_header e = header_inside state (ok_words state (first_ok (sym e)))
 
   pub first_passed : first_checks state scratch answers ≡ 0 → table_ok (nodes state) answers ≡ true
   unfolding first_checks
@@ -136,6 +142,21 @@ module _ (sender content proposer item : ℕ) (state : List ℕ) where
       go true b c x y e = absurd (omega arith)
       go false false c x y e = absurd (omega arith)
       go false true c x y e = (leb-false _ _ x, ltb-true _ _ (and_parts (within 1 3 content) _ y).1)
+
+-- WHAT THE CHECKS LET PASS, whatever follows the first three
+module _ (state : List ℕ) (k : ℕ) (answers : List ℕ) (b : ℕ) where
+  pub passed_words : 0 ≡ then_check (first_checks state k answers) b → StateWords state
+  passed_words e = ok_words state (first_ok state k answers (then_both _ _ (sym e)).0)
+
+  pub passed_room : 0 ≡ then_check (first_checks state k answers) b → scratch_of state ≤ k
+  passed_room e = (first_past state k answers (ap leaves_scratch (then_both _ _ (sym e)).0)).1
+
+  -- turned down, but not by 3 or 4
+  pub turned_past : (r : Refusal) → refusal_number r ≡ then_check (first_checks state k answers) b → leaves_scratch (refusal_number r) ≡ false
+      → StateWords state × (scratch_of state ≤ k)
+  turned_past r e h =
+      let p = first_past state k answers (then_past _ _ (ap leaves_scratch (sym e) ∙ h)) in
+      (ok_words state p.0, p.1)
 
 -- A CALL MAY RUN where its checks answer 0
 module _ (state scratch answers : List ℕ) where

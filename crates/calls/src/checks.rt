@@ -43,6 +43,7 @@ fn epoch_check(state: &[u64]) -> Result<(), Refusal>
 }
 
 // Propose: 3, 4, 5, 6.
+#[tactic(auto, using(crate::proofs::ChecksApart::first_header, crate::proofs::ChecksApart::then_passed))]
 pub fn propose_checks(state: &[u64], scratch: usize, answers: &[u64]) -> Result<(), Refusal>
     ensures { reply_of result ≡ propose_checks state.now scratch answers.now }
 {
@@ -84,6 +85,7 @@ impl TryFrom<MessageNumbers> for MessageContent {
 
 impl MessageNumbers {
     // Message: 3, 4, 5, then 11 for the sender, 7 for the proposer, 7 for content and item, 6.
+    #[tactic(auto, using(crate::proofs::ChecksApart::first_header))]
     pub fn checks(
         self,
         state: &[u64],

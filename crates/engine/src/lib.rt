@@ -91,6 +91,7 @@ fn turned_down(refusal: Refusal, state: &[u64], scratch: &mut [u64]) -> u64
 }
 
 // Proposes in the current epoch. Scratch is zero afterwards, unless the reply is 3 or 4.
+#[tactic(auto, using(calls::proofs::ChecksApart::passed_words, calls::proofs::ChecksApart::passed_room, calls::proofs::ChecksApart::propose_callable))]
 pub fn hb_propose(state: &mut [u64], scratch: &mut [u64], answers: &[u64], step: &mut [u64]) -> u64
     ensures { after result state.new scratch.new step.new
         ≡ propose_call state.old scratch.old answers.now step.old }
@@ -105,6 +106,7 @@ pub fn hb_propose(state: &mut [u64], scratch: &mut [u64], answers: &[u64], step:
 }
 
 // Handles a message from a node. Scratch is zero afterwards, unless the reply is 3 or 4.
+#[tactic(auto, using(calls::proofs::ChecksApart::passed_words, calls::proofs::ChecksApart::passed_room))]
 pub fn hb_message(
     sender: u64,
     epoch: u64,
