@@ -1,16 +1,8 @@
 -- A batch is what its epoch's decisions, plaintexts and 13s make it, and stays so in the whole history. Assumes nothing.
-use Prim.Native.Nat.{ℕ, zero, suc, ◌+◌, ◌-◌, ◌≤◌, ◌<◌}
-use native.Mathlib.Omega.{arith}
-use mathlib.Core.Path.{◌≡◌, refl, sym, ap, ◌∙◌}
-use mathlib.Core.Logic.{◌⊎◌, inl, inr}
+use Rattle.std.proofs.Common.{ℕ, zero, suc, ◌+◌, ◌-◌, ◌≤◌, ◌<◌, arith, ◌≡◌, refl, sym, ap, ◌∙◌, ◌⊎◌, inl, inr, List, [], ◌∷◌, ◌++◌, Bool, true, false, cond, ◌&&◌, Option, None, Some, eqb, length, take, drop, take_at, drop_at, eqb-true}
+use Rattle.std.proofs.lemmas.Bool.{false≢true, eqb-false}
 use mathlib.Core.List.Memᴰ
-use mathlib.Core.List.{List, [], ◌∷◌, ◌++◌, Memᴰ}
-use mathlib.Core.Bool.{Bool, true, false, cond, ◌&&◌, false≢true}
-use Rattle.std.specs.Prelude.{Option, None, Some}
-use lib.Dec.{eqb}
-use lib.ListN.{length, take, drop}
-use lib.Seq.{take_at, drop_at}
-use borrow.Author.Tests.{eqb-true, eqb-false}
+use mathlib.Core.List.{Memᴰ}
 use Rattle.steps.specs.Answers.{Rec}
 use Rattle.steps.specs.Taken.{is_there, is_true, ones_from, thirteens_in}
 use Rattle.subset.proofs.TakenTests.{Grown}

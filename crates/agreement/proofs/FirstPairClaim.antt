@@ -1,10 +1,6 @@
 -- The worked pair of FirstPairRuns.antt: all premises of demand 3's claim hold of it (`sound_a`, `sound_b`, `same`, `premises`), and so do all
 -- its conclusions (`conclusions`). The tests of Tests.antt are computed.
-use Prim.Native.Nat.{ℕ, ◌+◌, ◌*◌}
-use mathlib.Core.Path.{refl}
-use mathlib.Core.List.{◌++◌}
-use mathlib.Core.Bool.{cond, ◌&&◌}
-use lib.Dec.{eqb}
+use Rattle.std.proofs.Common.{ℕ, ◌+◌, ◌*◌, refl, ◌++◌, cond, ◌&&◌, eqb}
 use Rattle.steps.specs.Taken.{of_value, of_decision}
 use Rattle.steps.proofs.CaseTables.{table}
 use Rattle.agreement.specs.History.{readings}

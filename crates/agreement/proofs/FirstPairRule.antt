@@ -1,10 +1,5 @@
 -- The output of the worked pair of runs (FirstPairRuns.antt) with its values, and its answers to kind 8, computed: what specs/Demand2.antt states of every run.
-use Prim.Native.Nat.{ℕ}
-use mathlib.Core.Path.{◌≡◌, refl}
-use mathlib.Core.List.{List, [], ◌∷◌}
-use mathlib.Core.Bool.{cond, ◌&&◌}
-use Rattle.std.specs.Prelude.{Option, Some}
-use lib.ListN.{take}
+use Rattle.std.proofs.Common.{ℕ, ◌≡◌, refl, List, [], ◌∷◌, cond, ◌&&◌, Option, Some, take}
 use Rattle.steps.proofs.CaseTables.{table}
 use Rattle.subset.specs.Rule.{is_over, settled_from}
 use Rattle.epochwords.specs.Words.{load_decryption}

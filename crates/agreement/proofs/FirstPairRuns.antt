@@ -1,10 +1,6 @@
 -- A WORKED PAIR OF RUNS for demand 3 (Demand3.antt): two hosts, two epochs, a batch of each epoch on both hosts. Here are the runs and what
 -- is computed of them; FirstPairClaim.antt proves that all premises of the claim hold of them, and computes its conclusions.
-use Prim.Native.Nat.{ℕ}
-use mathlib.Core.Path.{◌≡◌, refl}
-use mathlib.Core.List.{List, [], ◌∷◌, ◌++◌}
-use Rattle.std.specs.Prelude.{Option, Some}
-use lib.ListN.{length, replicate}
+use Rattle.std.proofs.Common.{ℕ, ◌≡◌, refl, List, [], ◌∷◌, ◌++◌, Option, Some, length, replicate}
 use Rattle.steps.specs.Steps.{Item, item}
 use Rattle.steps.specs.Batches.{BatchEntry, Batch}
 use Rattle.steps.proofs.CaseTables.{table}

@@ -1,14 +1,6 @@
 -- What the state's words know of the history, and that writing an epoch, a word of the header or the next current epoch keeps it. Assumes nothing.
-use Prim.Native.Nat.{ℕ, ◌+◌, ◌≤◌, ◌<◌}
-use native.Mathlib.Omega.{arith}
-use mathlib.Core.Path.{◌≡◌, refl, ap, ◌∙◌}
-use mathlib.Core.List.{List}
-use mathlib.Core.Bool.{Bool, true, false}
-use Rattle.std.specs.Prelude.{Option}
-use lib.Dec.{eqb, leb}
-use lib.ListN.{length, get_or, set, replicate}
-use lib.Seq.{get_or-set_other}
-use borrow.Author.Tests.{eqb-true, eqb-false, leb-true, leb-false}
+use Rattle.std.proofs.Common.{ℕ, ◌+◌, ◌≤◌, ◌<◌, arith, ◌≡◌, refl, ap, ◌∙◌, List, Bool, true, false, Option, eqb, leb, length, get_or, set, replicate, get_or-set_other, eqb-true, leb-true, leb-false}
+use Rattle.std.proofs.lemmas.Bool.{eqb-false}
 use Rattle.network.specs.declared.network_info.NetworkInfo.{NetworkInfo}
 use Rattle.steps.proofs.Ranges.{zeros_at}
 use Rattle.subset.specs.Words.{epoch_length}

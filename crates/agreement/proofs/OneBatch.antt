@@ -1,13 +1,6 @@
 -- What handing out the batch of one epoch reads and logs: its 13s name the accepted proposers, its faults 5 and entries follow them. Assumes nothing.
-use Prim.Native.Nat.{ℕ, zero, suc, ◌+◌, ◌*◌, ◌-◌, ◌/◌, ◌^◌, ◌<◌}
-use native.Mathlib.Nat.{div-eq_of_lt, add-mul-div_left, add-mul-mod_self_right, pow-suc, add-div_right}
-use native.Mathlib.Omega.{arith}
-use mathlib.Core.Path.{◌≡◌, refl, sym, ap, ◌∙◌}
-use mathlib.Core.List.{List, [], ◌∷◌, ◌++◌, append_assoc, append-nil}
-use mathlib.Core.Bool.{Bool, true, false, cond}
-use lib.Dec.{eqb}
-use lib.Pow.{pow_pos, pow-add}
-use lib.ListN.{length, get_or, length-append}
+use Rattle.std.proofs.Common.{ℕ, zero, suc, ◌+◌, ◌*◌, ◌-◌, ◌/◌, ◌^◌, ◌<◌, pow-suc, arith, ◌≡◌, refl, sym, ap, ◌∙◌, List, [], ◌∷◌, ◌++◌, append_assoc, append-nil, Bool, true, false, cond, eqb, pow_pos, pow-add, length, get_or, length-append}
+use Rattle.std.proofs.Math.Nat.{div-eq_of_lt, add-mul-div_left, add-mul-mod_self_right, add-div_right}
 use Rattle.steps.specs.Answers.{Rec, Tape, tape}
 use Rattle.steps.specs.Steps.{Entry, fault, output, Item, item, faults, outputs}
 use Rattle.steps.specs.Runs.{going, ends, before}

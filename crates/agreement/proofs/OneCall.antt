@@ -1,15 +1,7 @@
 -- A run of propose or message: what it took, the batches that it handed out, and that the words still know the history. An epoch's laws are parameters. Assumes nothing.
-use Prim.Native.Nat.{ℕ, zero, suc, ◌+◌, ◌≤◌, ◌<◌}
-use native.Mathlib.Nat.{add-zero}
-use native.Mathlib.Omega.{arith}
-use mathlib.Core.Path.{◌≡◌, refl, sym, ap, ◌∙◌}
-use mathlib.Core.List.{List, [], ◌∷◌, ◌++◌, append_assoc}
-use mathlib.Core.Bool.{Bool, true, false, cond, ◌&&◌, not, false≢true}
-use Rattle.std.specs.Prelude.{Option, None}
-use lib.Dec.{eqb, leb, ltb}
-use lib.ListN.{length, get_or, set, length-set, length-replicate}
-use borrow.Author.Tests.{eqb-true, eq-eqb, ltb-true, ltb-false, le-leb, lt-leb}
-use Rattle.std.proofs.lemmas.Bool.{and_parts}
+use Rattle.std.proofs.Common.{ℕ, zero, suc, ◌+◌, ◌≤◌, ◌<◌, add-zero, arith, ◌≡◌, refl, sym, ap, ◌∙◌, List, [], ◌∷◌, ◌++◌, append_assoc, Bool, true, false, cond, ◌&&◌, not, Option, None, eqb, leb, ltb, length, get_or, set, length-set, eqb-true, eq-eqb, ltb-true, ltb-false, le-leb}
+use Rattle.std.proofs.lemmas.List.{length-replicate}
+use Rattle.std.proofs.lemmas.Bool.{and_parts, false≢true, lt-leb}
 use Rattle.std.proofs.Math.Bool.{and-false, and-true}
 use Rattle.network.specs.declared.network_info.NetworkInfo.{NetworkInfo}
 use Rattle.network.specs.Network.{Network, is_validator}

@@ -1,15 +1,8 @@
 -- A whole run: its words know its history to the end, every batch is dealt by what the whole history took, and the votes of every call. An epoch's laws are parameters. Assumes nothing.
-use Prim.Native.Nat.{ℕ, ◌+◌, ◌≤◌, ◌<◌, max}
-use native.Mathlib.Nat.{max-eq_left, max-eq_right}
-use native.Mathlib.Omega.{arith}
-use mathlib.Core.Path.{◌≡◌, refl, sym, ap, ◌∙◌, subst₂, subst₃, fun_ext}
-use mathlib.Core.List.{List, [], ◌∷◌, ◌++◌, append-nil}
-use mathlib.Core.Bool.{Bool, true, false, cond, not}
-use Rattle.std.specs.Prelude.{Option, None, Some}
-use lib.Dec.{eqb, leb, ltb}
-use lib.ListN.{length, set}
-use borrow.Author.Tests.{eqb-true, eqb-false, ltb-true, leb-true, leb-false}
-use Rattle.std.proofs.lemmas.Bool.{and_parts}
+use Rattle.std.proofs.Common.{ℕ, ◌+◌, ◌≤◌, ◌<◌, max, arith, ◌≡◌, refl, sym, ap, ◌∙◌, subst₂, List, [], ◌∷◌, ◌++◌, append-nil, Bool, true, false, cond, not, Option, None, Some, eqb, leb, ltb, length, set, eqb-true, ltb-true, leb-true, leb-false}
+use Rattle.std.proofs.Math.Nat.{max-eq_left, max-eq_right}
+use Rattle.std.proofs.Math.Path.{subst₃, fun_ext}
+use Rattle.std.proofs.lemmas.Bool.{and_parts, eqb-false}
 use Rattle.steps.specs.Numbers.{fault_limit, last_epoch}
 use Rattle.network.specs.declared.network_info.NetworkInfo.{NetworkInfo}
 use Rattle.network.specs.Network.{Network}

@@ -1,10 +1,7 @@
 -- What a host sees of calls that keep their contracts is a run of the definitions, so what is proved of such runs holds of it. Assumes nothing.
-use Prim.Native.Nat.{ℕ}
-use mathlib.Core.Path.{◌≡◌, refl, sym, ◌∙◌, ap, subst, subst₂}
+use Rattle.std.proofs.Common.{ℕ, ◌≡◌, refl, sym, ◌∙◌, ap, subst, subst₂, List, [], ◌∷◌, true, ⊎_elim}
 use mathlib.Core.List.Memᴰ
-use mathlib.Core.List.{List, [], ◌∷◌, Memᴰ}
-use mathlib.Core.Bool.{true}
-use mathlib.Core.Logic.{⊎_elim}
+use mathlib.Core.List.{Memᴰ}
 use Rattle.state.specs.State.{state_ok}
 use Rattle.engine.specs.Create.{create_state}
 use Rattle.calls.specs.Calls.{After}

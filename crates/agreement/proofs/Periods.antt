@@ -1,7 +1,6 @@
 -- TickTock in an engine: which epochs an engine that create made encrypts, and which hosts have equal schedules in demand 3. Assumes nothing.
-use Prim.Native.Nat.{ℕ, ◌+◌, ◌-◌, ◌*◌, ◌≤◌, ◌<◌}
-use mathlib.Core.Path.{◌≡◌, fun_ext, ap, ◌∙◌}
-use lib.Dec.{ltb}
+use Rattle.std.proofs.Common.{ℕ, ◌+◌, ◌-◌, ◌*◌, ◌≤◌, ◌<◌, ◌≡◌, ap, ◌∙◌, ltb}
+use Rattle.std.proofs.Math.Path.{fun_ext}
 use Rattle.state.specs.Schedule.{schedule_of}
 use Rattle.state.specs.State.{encrypted_in}
 use Rattle.state.proofs.Schedules.{first_on, as_every_nth}

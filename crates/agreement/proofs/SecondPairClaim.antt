@@ -1,10 +1,6 @@
 -- The worked pair of SecondPairRuns.antt: all premises of demand 3's claim hold of it (`sound_c`, `sound_d`, `same`, `premises`), and so do
 -- all its conclusions (`conclusions`). The tests of Tests.antt are computed.
-use Prim.Native.Nat.{ℕ, ◌+◌, ◌*◌}
-use mathlib.Core.Path.{◌≡◌, refl}
-use mathlib.Core.List.{◌++◌}
-use mathlib.Core.Bool.{Bool, cond, ◌&&◌}
-use lib.Dec.{eqb}
+use Rattle.std.proofs.Common.{ℕ, ◌+◌, ◌*◌, ◌≡◌, refl, ◌++◌, Bool, cond, ◌&&◌, eqb}
 use Rattle.steps.specs.Taken.{of_value, of_decision}
 use Rattle.engine.specs.Create.{create_reply}
 use Rattle.agreement.specs.History.{readings}

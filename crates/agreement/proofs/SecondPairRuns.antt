@@ -3,12 +3,7 @@
 --
 -- What this pair has and the first one (FirstPairRuns.antt) has not: one decision 0 in each epoch; share messages, some before the ciphertext, whose
 -- shares combine; an observer; two proposers with the same value; a skip that moves; an epoch that only one host hands out, on each side.
-use Prim.Native.Nat.{ℕ, ◌+◌, max}
-use mathlib.Core.Path.{◌≡◌, refl}
-use mathlib.Core.List.{List, [], ◌∷◌, ◌++◌}
-use mathlib.Core.Bool.{Bool, true, false}
-use Rattle.std.specs.Prelude.{Option, None, Some}
-use lib.ListN.{length, replicate}
+use Rattle.std.proofs.Common.{ℕ, ◌+◌, max, ◌≡◌, refl, List, [], ◌∷◌, ◌++◌, Bool, true, false, Option, None, Some, length, replicate}
 use Rattle.steps.specs.Steps.{Item, item, link_after}
 use Rattle.steps.specs.Answers.{Rec}
 use Rattle.steps.specs.Batches.{Batch}

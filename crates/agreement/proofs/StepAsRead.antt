@@ -1,10 +1,5 @@
 -- The batches and faults 5 that the host reads from a finished step are those of its log. Assumes nothing.
-use Prim.Native.Nat.{ℕ}
-use mathlib.Core.Path.{◌≡◌, refl, ap, ◌∙◌}
-use mathlib.Core.List.{List, [], ◌∷◌, ◌++◌, map}
-use mathlib.Core.Bool.{cond}
-use lib.Dec.{eqb}
-use lib.ListN.{get_or}
+use Rattle.std.proofs.Common.{ℕ, ◌≡◌, refl, ap, ◌∙◌, List, [], ◌∷◌, ◌++◌, map, cond, eqb, get_or}
 use Rattle.steps.specs.Answers.{Rec, chain}
 use Rattle.steps.specs.Steps.{Entry, Item, item, faults, outputs, written}
 use Rattle.steps.proofs.ReadBack.{item_of, written_read}

@@ -1,16 +1,9 @@
 -- Computed tests for what demand 3's claim says of closed runs: where a test is true, the premise or conclusion that it stands for holds. The
 -- worked pairs (FirstPairClaim.antt, SecondPairClaim.antt) compute them. Assumes nothing.
-use Prim.Native.Nat.{ℕ, zero, suc, ◌+◌, ◌-◌, ◌<◌}
-use mathlib.Core.Path.{◌≡◌, refl, sym, ◌∙◌}
-use mathlib.Core.Logic.{◌⊎◌, inl, inr}
+use Rattle.std.proofs.Common.{ℕ, zero, suc, ◌+◌, ◌-◌, ◌<◌, ◌≡◌, refl, sym, ◌∙◌, ◌⊎◌, inl, inr, List, [], ◌∷◌, Bool, true, false, cond, ◌&&◌, Option, None, Some, arith, eqb, leb, ltb, length, eqb-true, eq-eqb, leb-true, ltb-true}
+use Rattle.std.proofs.lemmas.Bool.{false≢true, eqb-false}
 use mathlib.Core.List.Memᴰ
-use mathlib.Core.List.{List, [], ◌∷◌, Memᴰ}
-use mathlib.Core.Bool.{Bool, true, false, cond, ◌&&◌, false≢true}
-use Rattle.std.specs.Prelude.{Option, None, Some}
-use native.Mathlib.Omega.{arith}
-use lib.Dec.{eqb, leb, ltb}
-use lib.ListN.{length}
-use borrow.Author.Tests.{eqb-true, eqb-false, eq-eqb, leb-true, ltb-true}
+use mathlib.Core.List.{Memᴰ}
 use Rattle.steps.specs.Answers.{Rec}
 use Rattle.steps.specs.Taken.{or_else, is_true, last_output_in, first_taken, thirteens_in}
 use Rattle.steps.specs.Batches.{BatchEntry, Batch}

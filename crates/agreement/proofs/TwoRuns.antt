@@ -1,12 +1,7 @@
 -- DEMAND 3: the claim about two whole lists of calls, for any `Holds` that has the laws of Interface.antt and Occupied.antt in `epoch`, which are parameters here. Assumes nothing.
-use Prim.Native.Nat.{ℕ}
-use native.Mathlib.Omega.{arith}
-use mathlib.Core.Path.{◌≡◌, refl, sym, ap, subst, subst₃, fun_ext}
-use mathlib.Core.List.{List}
-use mathlib.Core.Bool.{Bool, true, false, cond}
-use Rattle.std.specs.Prelude.{Option, None}
-use lib.Dec.{eqb, leb}
-use borrow.Author.Tests.{eqb-true, eqb-false, eq-eqb, lt-leb}
+use Rattle.std.proofs.Common.{ℕ, arith, ◌≡◌, refl, sym, ap, subst, List, Bool, true, false, cond, Option, None, eqb, leb, eqb-true, eq-eqb}
+use Rattle.std.proofs.Math.Path.{subst₃, fun_ext}
+use Rattle.std.proofs.lemmas.Bool.{eqb-false, lt-leb}
 use Rattle.network.specs.declared.network_info.NetworkInfo.{NetworkInfo}
 use Rattle.network.specs.Network.{Network}
 use Rattle.steps.specs.Taken.{or_else}

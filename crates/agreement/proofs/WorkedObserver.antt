@@ -1,11 +1,6 @@
 -- One run of an observer among four nodes, computed: which of its calls ask for a vote 0, and the tests of the rule (`Votes`, specs/Demand2.antt).
 -- The last three calls find N−f ones and an undecided agreement too, and do not come to the subset. Assumes nothing.
-use Prim.Native.Nat.{ℕ}
-use mathlib.Core.Path.{◌≡◌, refl}
-use mathlib.Core.List.{List, [], ◌∷◌, ◌++◌}
-use mathlib.Core.Bool.{Bool, true, false}
-use Rattle.std.specs.Prelude.{Option, None}
-use lib.ListN.{replicate}
+use Rattle.std.proofs.Common.{ℕ, ◌≡◌, refl, List, [], ◌∷◌, ◌++◌, Bool, true, false, Option, None, replicate}
 use Rattle.steps.specs.Steps.{Item, item}
 use Rattle.steps.specs.Taken.{is_asked, ones_from}
 use Rattle.steps.proofs.CaseTables.{table}

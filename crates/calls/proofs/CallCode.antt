@@ -1,12 +1,6 @@
 -- How a call ends, from what its runs left: the replies 8, 9 and 10, a failure, the finished step. Assumes nothing.
-use Prim.Native.Nat.{ℕ, ◌+◌, ◌-◌, ◌/◌, ◌<◌, ◌≤◌}
-use native.Mathlib.Omega.{arith}
-use mathlib.Core.Path.{◌≡◌, refl, sym, ap, ◌∙◌}
-use mathlib.Core.List.{List, [], ◌∷◌, ◌++◌}
-use mathlib.Core.Bool.{Bool, true, false, true≢false}
-use lib.ListN.{length, drop, replicate}
-use lib.Seq.{drop-append-add, drop-drop, get_or-set_other}
-use borrow.Author.Tests.{lt-ltb, le-ltb}
+use Rattle.std.proofs.Common.{ℕ, ◌+◌, ◌-◌, ◌/◌, ◌<◌, ◌≤◌, arith, ◌≡◌, refl, sym, ap, ◌∙◌, List, [], ◌∷◌, ◌++◌, Bool, true, false, true≢false, length, drop, replicate, drop-drop, get_or-set_other, lt-ltb, le-ltb}
+use Rattle.std.proofs.Math.Seq.{drop-append-add}
 use Rattle.steps.specs.Numbers.{fault_limit}
 use Rattle.steps.specs.Answers.{Tape, tape_of}
 use Rattle.steps.specs.declared.step.Step.{Step}

@@ -1,11 +1,6 @@
 -- The checks of propose and message, gone through once: what holds of each refusal, and of the run after them, holds of the call. Assumes nothing.
-use Prim.Native.Nat.{ℕ, ◌≤◌, ◌<◌}
-use mathlib.Core.Path.{◌≡◌, refl}
-use mathlib.Core.List.{List}
-use mathlib.Core.Bool.{Bool, true, false, cond, not}
-use lib.Dec.{eqb, leb, ltb}
-use lib.ListN.{length}
-use borrow.Author.Tests.{eqb-false, ltb-false, leb-false, not-true, not-false}
+use Rattle.std.proofs.Common.{ℕ, ◌≤◌, ◌<◌, ◌≡◌, refl, List, Bool, true, false, cond, not, eqb, leb, ltb, length, ltb-false, leb-false}
+use Rattle.std.proofs.lemmas.Bool.{eqb-false, not-true, not-false}
 use Rattle.steps.specs.Numbers.{last_epoch}
 use Rattle.steps.specs.Answers.{tape_of}
 use Rattle.steps.specs.Table.{table_ok}

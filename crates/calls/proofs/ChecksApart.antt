@@ -1,14 +1,6 @@
 -- THE CHECKS apart from the run: with what follows them they are the calls of Calls.antt; and what a reply of theirs says. Assumes nothing.
-use Rattle.std.specs.Prelude.{Ok, Err}
-use Prim.Native.Nat.{ℕ, ◌≤◌, ◌<◌}
-use native.Mathlib.Omega.{arith}
-use mathlib.Core.Path.{◌≡◌, refl, sym, ap, ◌∙◌}
-use mathlib.Core.List.{List}
-use mathlib.Core.Bool.{Bool, true, false, cond, not, ◌&&◌, false≢true, true≢false}
-use lib.Dec.{eqb, leb, ltb}
-use lib.ListN.{length}
-use borrow.Author.Tests.{eqb-true, eq-eqb, ne_eqb, lt-leb, le-leb, lt-ltb, le-ltb, ltb-true, ltb-false, leb-false}
-use Rattle.std.proofs.lemmas.Bool.{and_parts}
+use Rattle.std.proofs.Common.{Ok, Err, ℕ, ◌≤◌, ◌<◌, arith, ◌≡◌, refl, sym, ap, ◌∙◌, List, Bool, true, false, cond, not, ◌&&◌, true≢false, eqb, leb, ltb, length, eqb-true, eq-eqb, ne_eqb, le-leb, lt-ltb, le-ltb, ltb-true, ltb-false, leb-false}
+use Rattle.std.proofs.lemmas.Bool.{and_parts, false≢true, lt-leb}
 use Rattle.steps.specs.Numbers.{last_epoch}
 use Rattle.steps.specs.Table.{within, shape_ok, table_ok}
 use Rattle.steps.specs.Answers.{Tape, tape_of}

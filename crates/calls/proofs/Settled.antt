@@ -1,13 +1,6 @@
 -- What a call that passed its checks comes to, by runs on one epoch's words and a commit: in reply and in every word. Assumes nothing.
-use Prim.Native.Nat.{ℕ, ◌+◌, ◌≤◌}
-use mathlib.Core.Path.{◌≡◌, refl, ap, ◌∙◌}
-use mathlib.Core.List.{List, [], ◌∷◌}
-use mathlib.Core.Bool.{Bool, true, false, cond}
-use native.Mathlib.Omega.{arith}
-use lib.ListN.{set}
-use lib.Seq.{set-get_or}
-use lib.Dec.{ltb}
-use borrow.Author.Tests.{le-leb}
+use Rattle.std.proofs.Common.{ℕ, ◌+◌, ◌≤◌, ◌≡◌, refl, ap, ◌∙◌, List, [], ◌∷◌, Bool, true, false, cond, arith, set, ltb, le-leb}
+use Rattle.std.proofs.lemmas.List.{set-get_or}
 use Rattle.steps.specs.Numbers.{fault_limit}
 use Rattle.network.specs.Network.{is_validator}
 use Rattle.steps.specs.Answers.{Tape}

@@ -1,18 +1,11 @@
 -- Starting and combining: each goes on with the other, as in the Rust. Assumes nothing.
-use Prim.Native.Nat.{ℕ, ◌<◌, ◌≤◌}
-use mathlib.Core.Path.{◌≡◌, refl, ap, ◌∙◌, ap₂}
-use mathlib.Core.List.{List, [], ◌∷◌}
-use mathlib.Core.Bool.{Bool, true, false, cond, ◌&&◌}
-use Rattle.std.specs.Prelude.{Option, None, Some, Ok, Err}
+use Rattle.std.proofs.Common.{ℕ, ◌<◌, ◌≤◌, ◌≡◌, refl, ap, ◌∙◌, ap₂, List, [], ◌∷◌, Bool, true, false, cond, ◌&&◌, Option, None, Some, Ok, Err, arith, set, eqb, le-leb, eq-eqb, ne_eqb}
+use Rattle.std.proofs.lemmas.Bool.{lt-leb}
 use Rattle.steps.specs.declared.kinds.Stop.{Stop}
 use Rattle.steps.specs.declared.step.Writer.{Writer}
 use Rattle.steps.specs.Written.{out_of, left}
 use Rattle.steps.proofs.LentRuns.{heard_ok_left, heard_err_left, before_left, onward_ok, onward_err}
 use Rattle.steps.specs.Told.{told, heard_in}
-use native.Mathlib.Omega.{arith}
-use lib.ListN.{set}
-use lib.Dec.{eqb}
-use borrow.Author.Tests.{le-leb, lt-leb, eq-eqb, ne_eqb}
 use Rattle.network.specs.declared.network_info.NetworkInfo.{NetworkInfo}
 use Rattle.network.specs.Network.{is_validator}
 use Rattle.steps.specs.Answers.{Tape, ask}

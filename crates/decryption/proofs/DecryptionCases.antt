@@ -1,12 +1,6 @@
 -- Cases of threshold decryption, as one table under one statement, `decryption_cases`, which is proved by computing the definitions: cases 7
 -- and 8 of the engine's twelve (engine/proofs/BenchCases.antt), and more. Assumes nothing.
-use Prim.Native.Nat.{ℕ}
-use mathlib.Core.Path.{refl}
-use mathlib.Core.List.{List, [], ◌∷◌}
-use mathlib.Core.Bool.{Bool, true, false, cond}
-use Rattle.std.specs.Prelude.{Option, None, Some}
-use lib.ListN.{set, replicate}
-use lib.Dec.{eqb}
+use Rattle.std.proofs.Common.{ℕ, refl, List, [], ◌∷◌, Bool, true, false, cond, Option, None, Some, set, replicate, eqb}
 use Rattle.network.specs.declared.network_info.NetworkInfo.{NetworkInfo}
 use Rattle.steps.specs.Answers.{Tape, tape, tape_at}
 use Rattle.steps.specs.Steps.{Entry, message, fault, Item}

@@ -1,12 +1,6 @@
 -- The Rust's errors: `CiphertextIsNone` cannot arise, a duplicate share combines nothing, and 24 and 25 are the only failures. Assumes nothing.
-use Prim.Native.Nat.{ℕ}
-use mathlib.Core.Path.{◌≡◌, refl, sym, ap, ◌∙◌, ap₂}
-use mathlib.Core.List.{[], ◌∷◌}
-use mathlib.Core.Bool.{Bool, true, false, cond, false≢true}
-use Rattle.std.specs.Prelude.{Option, None}
-use lib.ListN.{get_or, set}
-use lib.Dec.{leb, eqb}
-use borrow.Author.Tests.{eqb-true, eqb-false, leb-true, leb-false, not-true, ne_eqb}
+use Rattle.std.proofs.Common.{ℕ, ◌≡◌, refl, sym, ap, ◌∙◌, ap₂, [], ◌∷◌, Bool, true, false, cond, Option, None, get_or, set, leb, eqb, eqb-true, leb-true, leb-false, ne_eqb}
+use Rattle.std.proofs.lemmas.Bool.{false≢true, eqb-false, not-true}
 use Rattle.network.specs.declared.network_info.NetworkInfo.{NetworkInfo}
 use Rattle.steps.specs.Answers.{Got}
 use Rattle.steps.specs.Answers.{Tape, asked, ask_about}

@@ -1,6 +1,5 @@
 -- Every operation reads a first part of the chain, and stands behind it afterwards. Assumes nothing.
-use Prim.Native.Nat.{ℕ}
-use mathlib.Core.Path.{refl}
+use Rattle.std.proofs.Common.{ℕ, refl}
 use Rattle.network.specs.declared.network_info.NetworkInfo.{NetworkInfo}
 use Rattle.steps.specs.Answers.{Tape}
 use Rattle.steps.specs.Runs.{Run}

@@ -1,19 +1,9 @@
 -- Counting and checking shares, case by case. Assumes nothing.
-use Prim.Native.Nat.{ℕ, zero, suc, ◌+◌, ◌-◌, ◌<◌, ◌≤◌}
-use native.Mathlib.Omega.{arith}
-use mathlib.Core.Path.{◌≡◌, refl}
-use mathlib.Core.List.{List}
-use mathlib.Core.Bool.{Bool, true, false, cond, not}
-use lib.ListN.{length, get_or, drop}
-use lib.Dec.{eqb}
-use borrow.Author.Tests.{eq-eqb, ne_eqb}
+use Rattle.std.proofs.Common.{ℕ, zero, suc, ◌+◌, ◌-◌, ◌<◌, ◌≤◌, arith, ◌≡◌, refl, List, Bool, true, false, cond, not, length, get_or, drop, eqb, eq-eqb, ne_eqb, Ok, Err, add-one, drop-cons}
 use Rattle.steps.specs.Answers.{Answer}
 use Rattle.steps.specs.Answers.{Got}
 use Rattle.steps.specs.Answers.{Tape, asked, ask_about}
-use Rattle.std.specs.Prelude.{Ok, Err}
 use Rattle.std.specs.List.{count_by}
-use Rattle.std.proofs.Common.{add-one}
-use Rattle.std.proofs.Math.Seq.{drop-cons}
 use Rattle.std.proofs.lemmas.List.{drop_all}
 use Rattle.std.proofs.lemmas.List.Sums.{sum_by-cons}
 use Rattle.steps.specs.declared.kinds.Stop.{Stop}

@@ -1,12 +1,5 @@
 -- ONE WALK of threshold decryption, for every property of runs that has the rules. Assumes nothing.
-use Prim.Native.Nat.{ℕ, zero, suc, ◌+◌, ◌≤◌}
-use mathlib.Core.Path.{◌≡◌, refl}
-use mathlib.Core.Bool.{Bool, true, false, cond, ◌&&◌, not}
-use Rattle.std.specs.Prelude.{Option, None}
-use native.Mathlib.Omega.{arith}
-use lib.ListN.{set}
-use lib.Dec.{leb, eqb}
-use borrow.Author.Tests.{ne_eqb, leb-true}
+use Rattle.std.proofs.Common.{ℕ, zero, suc, ◌+◌, ◌≤◌, ◌≡◌, refl, Bool, true, false, cond, ◌&&◌, not, Option, None, arith, set, leb, eqb, ne_eqb, leb-true}
 use Rattle.std.proofs.lemmas.Bool.{and_parts}
 use Rattle.network.specs.declared.network_info.NetworkInfo.{NetworkInfo}
 use Rattle.network.specs.Network.{is_validator}

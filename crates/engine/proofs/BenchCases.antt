@@ -1,10 +1,6 @@
 -- The twelve bench cases that the engine's owner gave (case 10 as docs/changes/g.md has it), as one table under one statement, `bench_cases`, which is proved by computing the definitions.
 -- Where the rows that were given would not refuse one of its plausible but wrong programs, there are more. Assumes nothing.
-use Prim.Native.Nat.{ℕ}
-use mathlib.Core.Path.{refl}
-use mathlib.Core.List.{List, [], ◌∷◌, ◌++◌}
-use mathlib.Core.Bool.{cond}
-use lib.ListN.{length, get_or, set, replicate}
+use Rattle.std.proofs.Common.{ℕ, refl, List, [], ◌∷◌, ◌++◌, cond, length, get_or, set, replicate}
 use Rattle.steps.specs.Steps.{Item, item}
 use Rattle.steps.proofs.CaseTables
 use Rattle.steps.proofs.CaseTables.{Row, ◌⇒◌, Case, case, Done, done, state_after, AllHold, yes, no, out, table}

@@ -1,13 +1,9 @@
 -- Every reply is one of those that the interface (include/belkjund.h) lists, and a refusal changes nothing.
-use Prim.Native.Nat.{ℕ, ◌+◌, ◌/◌, ◌≤◌, ◌<◌}
-use native.Mathlib.Omega.{arith}
-use mathlib.Core.Path.{◌≡◌, refl, sym, ap, ◌∙◌}
-use mathlib.Core.List.{List, [], ◌∷◌, ◌++◌}
-use mathlib.Core.Bool.{Bool, true, false, cond, not, and-false, false≢true, true≢false}
-use lib.Dec.{eqb, leb, ltb}
-use lib.ListN.{length, get_or, drop, replicate, length-append, length-drop, length-replicate, get_or-replicate, get_or-append}
-use lib.Seq.{drop_at}
-use borrow.Author.Tests.{eqb-true, lt-leb, ne_eqb}
+use Rattle.std.proofs.Common.{ℕ, ◌+◌, ◌/◌, ◌≤◌, ◌<◌, arith, ◌≡◌, refl, sym, ap, ◌∙◌, List, [], ◌∷◌, ◌++◌, Bool, true, false, cond, not, true≢false, eqb, leb, ltb, length, get_or, drop, replicate, length-append, length-drop, drop_at, eqb-true, ne_eqb}
+use Rattle.std.proofs.Math.Bool.{and-false}
+use Rattle.std.proofs.Math.ListN.{get_or-append}
+use Rattle.std.proofs.lemmas.Bool.{false≢true, lt-leb}
+use Rattle.std.proofs.lemmas.List.{length-replicate, get_or-replicate}
 use Rattle.steps.specs.Numbers.{last_epoch}
 use Rattle.steps.specs.Answers.{tape_of}
 use Rattle.steps.specs.Runs.{Verdict, going, refused, failed, number_of, Run}

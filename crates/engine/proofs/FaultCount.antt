@@ -1,13 +1,6 @@
 -- "the fault count, all faults in successful steps since creation, stopping at 2^32−1": a call with reply 0 adds its step's faults, and no other call
 -- or skip changes it. Assumes nothing.
-use Prim.Native.Nat.{ℕ, ◌+◌, ◌/◌}
-use native.Mathlib.Omega.{arith}
-use mathlib.Core.Path.{◌≡◌, refl}
-use mathlib.Core.List.{List}
-use mathlib.Core.Bool.{Bool, true, false, cond, not}
-use lib.Dec.{eqb, leb, ltb}
-use lib.ListN.{length, set}
-use lib.Seq.{get_or-set_same}
+use Rattle.std.proofs.Common.{ℕ, ◌+◌, ◌/◌, arith, ◌≡◌, refl, List, Bool, true, false, cond, not, eqb, leb, ltb, length, set, get_or-set_same}
 use Rattle.steps.specs.Numbers.{last_epoch, fault_limit}
 use Rattle.steps.specs.Answers.{tape_of}
 use Rattle.steps.specs.Steps.{Entry, faults}

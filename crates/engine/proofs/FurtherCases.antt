@@ -1,8 +1,6 @@
 -- Cases beyond the twelve, in the language of BenchCases.antt: failed calls, the checks and their order, batches and has input, create's bounds,
 -- proposals and shares that are not looked at, votes above N−f, lists kept. Assumes nothing.
-use mathlib.Core.Path.{refl}
-use mathlib.Core.List.{[], ◌∷◌, ◌++◌}
-use lib.ListN.{replicate}
+use Rattle.std.proofs.Common.{refl, [], ◌∷◌, ◌++◌, replicate}
 use Rattle.steps.specs.Steps.{item}
 use Rattle.steps.proofs.CaseTables.{◌⇒◌, case, AllHold, yes, no, out, table}
 use Rattle.engine.proofs.BenchCases

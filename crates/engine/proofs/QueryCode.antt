@@ -1,11 +1,5 @@
 -- What a query may take for granted of a state, and the replies that results stand for. Assumes nothing.
-use Prim.Native.Nat.{◌≤◌}
-use mathlib.Core.Path.{◌≡◌}
-use mathlib.Core.Bool.{true}
-use mathlib.Core.List.{List}
-use Prim.Native.Nat.{ℕ}
-use lib.ListN.{length}
-use Rattle.std.specs.Prelude.{Result, Ok, Err, MatchResult}
+use Rattle.std.proofs.Common.{◌≤◌, ◌≡◌, true, List, ℕ, length, Result, Ok, Err, MatchResult}
 use Rattle.calls.specs.declared.refusal.Refusal.{Refusal}
 use Rattle.calls.specs.declared.refusal.End.{End}
 use Rattle.calls.specs.Refusals.{refusal_number, reply_of, end_number, call_reply}

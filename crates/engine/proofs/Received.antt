@@ -1,10 +1,6 @@
 -- RECEIVED PROPOSALS of a state in range are the ones of a word of bits: those of the current epoch that are in HasValue or Complete with 1,
 -- after Done the accepted ones. Assumes nothing.
-use Prim.Native.Nat.{ℕ, ◌<◌, ◌^◌}
-use mathlib.Core.Path.{◌≡◌}
-use mathlib.Core.List.{List}
-use mathlib.Core.Bool.{true}
-use native.Mathlib.Omega.{arith}
+use Rattle.std.proofs.Common.{ℕ, ◌<◌, ◌^◌, ◌≡◌, List, true, arith}
 use lib.Count.{ones}
 use Rattle.subset.specs.Words.{accepted_at, accepted_of}
 use Rattle.subset.proofs.Ranges.{limit_own}

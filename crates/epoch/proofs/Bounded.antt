@@ -1,9 +1,6 @@
 -- How many entries an epoch's calls write besides one for each record that they read: at Done the faults 2, N × N at most; a fault 2 or 6 after a
 -- share. Assumes nothing.
-use Prim.Native.Nat.{ℕ, ◌+◌}
-use mathlib.Core.List.{List}
-use mathlib.Core.Bool.{Bool}
-use native.Mathlib.Omega.{arith}
+use Rattle.std.proofs.Common.{ℕ, ◌+◌, List, Bool, arith}
 use Rattle.network.specs.declared.network_info.NetworkInfo.{NetworkInfo}
 use Rattle.steps.proofs.Logic.{anything, permits_anything}
 use Rattle.steps.proofs.Bounded.{bounded_wider, spends_bounded, counting, counting_stateless}

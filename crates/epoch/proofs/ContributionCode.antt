@@ -1,14 +1,7 @@
 -- The list of contributions, and handling them: what the code leaves. Assumes nothing.
-use Prim.Native.Nat.{ℕ, suc, ◌+◌, ◌-◌, ◌<◌}
-use native.Mathlib.Omega.{arith}
-use mathlib.Core.Path.{◌≡◌, refl, sym, ap, ◌∙◌}
-use mathlib.Core.List.{List}
-use mathlib.Core.Bool.{Bool, true, false}
-use lib.ListN.{length, get_or, set}
-use lib.Seq.{get_or-set_same, get_or-set_other, set_out}
-use lib.Dec.{eqb, ltb}
-use borrow.Author.Tests.{eqb-true, eqb-false, ltb-true, ltb-false}
-use Rattle.std.specs.Prelude.{Ok, Err}
+use Rattle.std.proofs.Common.{ℕ, suc, ◌+◌, ◌-◌, ◌<◌, arith, ◌≡◌, refl, sym, ap, ◌∙◌, List, Bool, true, false, length, get_or, set, get_or-set_same, get_or-set_other, eqb, ltb, eqb-true, ltb-true, ltb-false, Ok, Err}
+use Rattle.std.proofs.Math.Seq.{set_out}
+use Rattle.std.proofs.lemmas.Bool.{eqb-false}
 use Rattle.steps.specs.declared.kinds.Stop.{Stop}
 use Rattle.steps.specs.declared.step.Writer.{Writer}
 use Rattle.steps.specs.Written.{out_of, left}

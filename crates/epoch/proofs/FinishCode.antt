@@ -1,10 +1,5 @@
 -- The end of `Done`: what the code leaves. Assumes nothing.
-use Prim.Native.Nat.{ℕ, suc, ◌+◌, ◌-◌, ◌<◌}
-use native.Mathlib.Omega.{arith}
-use mathlib.Core.Path.{◌≡◌, refl, sym}
-use mathlib.Core.List.{List, [], ◌∷◌, ◌++◌}
-use mathlib.Core.Bool.{Bool, true, false, cond}
-use Rattle.std.specs.Prelude.{Ok}
+use Rattle.std.proofs.Common.{ℕ, suc, ◌+◌, ◌-◌, ◌<◌, arith, ◌≡◌, refl, sym, List, [], ◌∷◌, ◌++◌, Bool, true, false, cond, Ok}
 use Rattle.steps.specs.declared.step.Writer.{Writer}
 use Rattle.steps.specs.Written.{out_of, left}
 use Rattle.network.specs.declared.network_info.NetworkInfo.{NetworkInfo}

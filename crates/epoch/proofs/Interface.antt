@@ -1,11 +1,5 @@
 -- What the engine's theorems use of an epoch's runs: what its words know of the values, decisions and plaintexts taken, and how a call moves it. Assumes nothing.
-use Prim.Native.Nat.{ℕ, ◌≤◌, ◌<◌}
-use mathlib.Core.Path.{◌≡◌}
-use mathlib.Core.List.{List, [], ◌∷◌, ◌++◌}
-use mathlib.Core.Bool.{Bool, true, cond, not}
-use Rattle.std.specs.Prelude.{Option, None, Some}
-use lib.ListN.{length, get_or}
-use lib.Dec.{eqb}
+use Rattle.std.proofs.Common.{ℕ, ◌≤◌, ◌<◌, ◌≡◌, List, [], ◌∷◌, ◌++◌, Bool, true, cond, not, Option, None, Some, length, get_or, eqb}
 use Rattle.network.specs.declared.network_info.NetworkInfo.{NetworkInfo}
 use Rattle.network.specs.Network.{Network, is_validator, num_correct}
 use Rattle.steps.specs.Answers.{Rec, Tape}

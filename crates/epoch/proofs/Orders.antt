@@ -1,16 +1,6 @@
 -- COUNTS AND ORDERS OF AN EPOCH: received proposals, the faults 2 of Done, the order of contributions, and what a ciphertext that does not
 -- read or verify leaves. Assumes nothing.
-use Prim.Native.Nat.{ℕ, zero, suc, ◌+◌, ◌-◌, ◌^◌, ◌≤◌, ◌<◌}
-use mathlib.Core.Path.{◌≡◌, refl, sym, ap, ap₂, ◌∙◌}
-use mathlib.Core.List.{List, [], ◌∷◌, ◌++◌, append-nil}
-use mathlib.Core.Bool.{Bool, true, false, cond, ◌&&◌}
-use mathlib.Core.Logic.{◌⊎◌, inl, inr}
-use native.Mathlib.Omega.{arith}
-use native.Mathlib.Nat.{eq-or-lt_of_le}
-use lib.ListN.{length, get_or, set, replicate}
-use lib.Seq.{get_or-set_other}
-use lib.Dec.{eqb}
-use borrow.Author.Tests.{eqb-true, eq-eqb, ne_eqb}
+use Rattle.std.proofs.Common.{ℕ, zero, suc, ◌+◌, ◌-◌, ◌^◌, ◌≤◌, ◌<◌, ◌≡◌, refl, sym, ap, ap₂, ◌∙◌, List, [], ◌∷◌, ◌++◌, append-nil, Bool, true, false, cond, ◌&&◌, ◌⊎◌, inl, inr, arith, eq-or-lt_of_le, length, get_or, set, replicate, get_or-set_other, eqb, eqb-true, eq-eqb, ne_eqb}
 use lib.Count.{ones}
 use Rattle.std.proofs.Math.Bool.{and-false}
 use Rattle.network.specs.declared.network_info.NetworkInfo.{NetworkInfo}

@@ -1,17 +1,7 @@
 -- Every run of the subset, of threshold decryption and of an epoch is quiet; the first two read their own kinds of answers only, and the subset leaves the words that are not its own. Assumes nothing.
-use Prim.Native.Nat.{ℕ, ◌+◌, ◌<◌, ◌≤◌}
-use mathlib.Core.Path.{◌≡◌, refl, ◌∙◌}
-use mathlib.Core.List.{List}
-use mathlib.Core.Bool.{Bool, true, false, cond, ◌||◌}
-use Rattle.std.specs.Prelude.{Option, None, Some}
-use native.Mathlib.Omega.{arith}
-use lib.ListN.{get_or, set}
-use lib.Seq.{get_or-set_other}
-use lib.Dec.{leb, ltb, eqb}
-use borrow.Author.Tests.{leb-true, le-leb, ne_eqb, lt-leb}
-use Rattle.std.proofs.lemmas.Bool.{and_parts, or_right, or_cases}
+use Rattle.std.proofs.Common.{ℕ, ◌+◌, ◌<◌, ◌≤◌, ◌≡◌, refl, ◌∙◌, List, Bool, true, false, cond, ◌||◌, Option, None, Some, arith, get_or, set, get_or-set_other, leb, ltb, eqb, leb-true, le-leb, ne_eqb, ⊎_elim}
+use Rattle.std.proofs.lemmas.Bool.{and_parts, or_right, or_cases, lt-leb}
 use Rattle.std.proofs.Math.Bool.{and-false}
-use mathlib.Core.Logic.{⊎_elim}
 use Rattle.steps.specs.declared.reader.Content.{Content}
 use Rattle.network.specs.declared.network_info.NetworkInfo.{NetworkInfo}
 use Rattle.steps.specs.Answers.{Rec, Tape}

@@ -1,10 +1,5 @@
 -- Runs that have read answers of certain kinds only, whose log has no outputs and no faults 5, and whose state has a property. Assumes nothing.
-use Rattle.std.specs.Prelude.{Option, None}
-use Prim.Native.Nat.{ℕ}
-use mathlib.Core.Path.{◌≡◌, refl, sym}
-use mathlib.Core.List.{List, [], ◌∷◌, ◌++◌, append_assoc}
-use mathlib.Core.Bool.{Bool, true, false, cond}
-use lib.Dec.{eqb}
+use Rattle.std.proofs.Common.{Option, None, ℕ, ◌≡◌, refl, sym, List, [], ◌∷◌, ◌++◌, append_assoc, Bool, true, false, cond, eqb}
 use Rattle.steps.specs.declared.reader.Content.{Content}
 use Rattle.steps.specs.declared.reader.Content.TheVariants.{Broadcast, Agreement}
 use Rattle.steps.specs.Answers.{Answer}

@@ -1,12 +1,5 @@
 -- What every write to an epoch's words keeps, its two calls keep, whatever their verdict. Assumes nothing.
-use Prim.Native.Nat.{ℕ, zero, suc, ◌+◌, ◌-◌}
-use native.Mathlib.Omega.{arith}
-use mathlib.Core.Path.{◌≡◌}
-use mathlib.Core.List.{List}
-use mathlib.Core.Bool.{Bool, true, false, cond}
-use Rattle.std.specs.Prelude.{Option, None, Some}
-use lib.ListN.{get_or, set}
-use lib.Dec.{ltb}
+use Rattle.std.proofs.Common.{ℕ, zero, suc, ◌+◌, ◌-◌, arith, ◌≡◌, List, Bool, true, false, cond, Option, None, Some, get_or, set, ltb}
 use Rattle.network.specs.declared.network_info.NetworkInfo.{NetworkInfo}
 use Rattle.steps.specs.Answers.{Tape}
 use Rattle.decryption.specs.declared.ThresholdDecrypt.{ThresholdDecrypt}

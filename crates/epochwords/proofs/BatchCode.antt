@@ -1,9 +1,5 @@
 -- Laws for the code that hands out a batch: its tests and loops, case by case. Assumes nothing.
-use Prim.Native.Nat.{ℕ, suc, ◌+◌, ◌-◌, ◌≤◌, ◌<◌}
-use mathlib.Core.Path.{◌≡◌, refl, sym, ◌∙◌}
-use mathlib.Core.List.{List, ◌∷◌}
-use mathlib.Core.Bool.{Bool, true, false, cond, ◌&&◌, not}
-use native.Mathlib.Omega.{arith}
+use Rattle.std.proofs.Common.{ℕ, suc, ◌+◌, ◌-◌, ◌≤◌, ◌<◌, ◌≡◌, refl, sym, ◌∙◌, List, ◌∷◌, Bool, true, false, cond, ◌&&◌, not, arith}
 use lib.Count.{ones}
 use Rattle.steps.specs.Numbers.{batch_output, entry_output}
 use Rattle.steps.specs.Answers.{Tape}

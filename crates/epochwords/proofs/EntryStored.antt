@@ -1,15 +1,7 @@
 -- The accepted proposers and the entries of decryption in an epoch's words: what setting one changes, and what it leaves. Assumes nothing.
-use Prim.Native.Nat.{ℕ, zero, suc, ◌+◌, ◌*◌, ◌/◌, ◌-◌, ◌%◌, ◌^◌, ◌≤◌, ◌<◌}
-use mathlib.Core.Path.{◌≡◌, refl, sym, ap, ◌∙◌}
-use mathlib.Core.List.{List}
-use mathlib.Core.Bool.{Bool, true, false, cond}
-use native.Mathlib.Omega.{arith}
-use native.Mathlib.Nat.{mul-le-mul_right, suc-mul, add-div_right, add-mul-div_right, two-pow-succ}
-use lib.ListN.{length, get_or, set, length-set}
-use lib.Seq.{get_or-set_same, get_or-set_other}
-use lib.Pow.{pow_pos, pow-add, shr-shr}
-use lib.Dec.{eqb, ltb}
-use borrow.Author.Tests.{eqb-true, eqb-false, ltb-true, ltb-false, eq-eqb}
+use Rattle.std.proofs.Common.{ℕ, zero, suc, ◌+◌, ◌*◌, ◌/◌, ◌-◌, ◌%◌, ◌^◌, ◌≤◌, ◌<◌, ◌≡◌, refl, sym, ap, ◌∙◌, List, Bool, true, false, cond, arith, mul-le-mul_right, suc-mul, length, get_or, set, length-set, get_or-set_same, get_or-set_other, pow_pos, pow-add, shr-shr, eqb, ltb, eqb-true, ltb-true, ltb-false, eq-eqb}
+use Rattle.std.proofs.Math.Nat.{add-div_right, add-mul-div_right, two-pow-succ}
+use Rattle.std.proofs.lemmas.Bool.{eqb-false}
 use Rattle.steps.specs.Bits.{has_bit, with_bit}
 use Rattle.decryption.specs.declared.ThresholdDecrypt.{ThresholdDecrypt}
 use Rattle.decryption.specs.Decrypt.{new}

@@ -1,13 +1,7 @@
 -- The range rule of an epoch's words says that each word is below the limit of its place, and what is stored there keeps it. Assumes nothing.
-use Prim.Native.Nat.{ℕ, zero, suc, ◌+◌, ◌/◌, ◌-◌, ◌%◌, ◌^◌, ◌≤◌, ◌<◌}
-use mathlib.Core.Path.{◌≡◌, refl, ap, ◌∙◌}
-use mathlib.Core.List.{List, [], ◌∷◌, ◌++◌}
-use mathlib.Core.Bool.{Bool, true, false, cond, ◌&&◌}
-use native.Mathlib.Omega.{arith}
-use native.Mathlib.Nat.{div-add-mod', mod-lt, div-lt_iff_lt-mul, zero-add}
-use lib.ListN.{length, get_or, replicate, length-append, length-replicate, get_or-eq_default}
-use lib.Dec.{leb, ltb, eqb}
-use borrow.Author.Tests.{eqb-true, leb-true, ltb-true, ltb-false, eq-eqb, le-leb, lt-ltb}
+use Rattle.std.proofs.Common.{ℕ, zero, suc, ◌+◌, ◌/◌, ◌-◌, ◌%◌, ◌^◌, ◌≤◌, ◌<◌, ◌≡◌, refl, ap, ◌∙◌, List, [], ◌∷◌, ◌++◌, Bool, true, false, cond, ◌&&◌, arith, div-add-mod', mod-lt, div-lt_iff_lt-mul, zero-add, length, get_or, replicate, length-append, leb, ltb, eqb, eqb-true, leb-true, ltb-true, ltb-false, eq-eqb, le-leb, lt-ltb}
+use Rattle.std.proofs.Math.ListN.{get_or-eq_default}
+use Rattle.std.proofs.lemmas.List.{length-replicate}
 use Rattle.std.proofs.lemmas.Bool.{and_parts, and_from}
 use Rattle.steps.proofs.BitLaws.{with_below}
 use Rattle.steps.proofs.Ranges.{Below, zeros_at}

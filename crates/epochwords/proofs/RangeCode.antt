@@ -1,15 +1,8 @@
 -- Laws for the code that checks the range rule. Assumes nothing.
-use Prim.Native.Nat.{ℕ, zero, suc, ◌+◌, ◌-◌, ◌*◌, ◌^◌, ◌≤◌, ◌<◌}
-use mathlib.Core.Path.{◌≡◌, refl, sym, ◌∙◌}
-use mathlib.Core.List.{List}
-use mathlib.Core.Bool.{Bool, true, false, ◌&&◌, and-true, and-false, and_assoc}
-use native.Mathlib.Omega.{arith}
-use native.Mathlib.Nat.{mul-le-mul_right, suc-mul, add-mul, lt_of_lt_of_le}
-use lib.ListN.{length, get_or, take, drop, length-drop}
-use lib.Seq.{length-take-le, get_or-take, get_or-drop}
-use lib.Dec.{eqb, leb, ltb}
-use lib.Bits.{bit_or, or_lt, or_add_and, and_le_l, and_le_r}
-use borrow.Author.Tests.{le-leb, lt-ltb, le-ltb, ltb-true, ltb-false, eq-eqb, eqb-true, ne_eqb}
+use Rattle.std.proofs.Common.{ℕ, zero, suc, ◌+◌, ◌-◌, ◌*◌, ◌^◌, ◌≤◌, ◌<◌, ◌≡◌, refl, sym, ◌∙◌, List, Bool, true, false, ◌&&◌, arith, mul-le-mul_right, suc-mul, add-mul, lt_of_lt_of_le, length, get_or, take, drop, length-drop, length-take-le, get_or-take, get_or-drop, eqb, leb, ltb, bit_or, le-leb, lt-ltb, le-ltb, ltb-true, ltb-false, eq-eqb, eqb-true, ne_eqb}
+use Rattle.std.proofs.Math.Bool.{and-true, and-false, and_assoc}
+use Rattle.std.proofs.lemmas.Nat.{or_lt, and_le_l, and_le_r}
+use lib.Bits.{or_add_and}
 use Rattle.std.proofs.lemmas.Bool.{and_parts as parts, and_from}
 use Rattle.std.specs.Cmp.{both_ways}
 use Rattle.subset.specs.Words.{record_length, record_at, epoch_length, tag_complete_true, status_of, status_complete, decided_at, accepted_of, count_of}

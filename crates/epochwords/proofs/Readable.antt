@@ -1,10 +1,5 @@
 -- THE ENTRIES OF A BATCH are as many as the readable ones, which the language's count of ones counts: no bit above the n-th is ever set. Assumes nothing.
-use Prim.Native.Nat.{ℕ, zero, suc, ◌+◌, ◌^◌, ◌≤◌, ◌<◌}
-use mathlib.Core.Path.{◌≡◌, sym}
-use mathlib.Core.List.{List}
-use native.Mathlib.Omega.{arith}
-use lib.Dec.{eqb}
-use lib.Pow.{pow_pos}
+use Rattle.std.proofs.Common.{ℕ, zero, suc, ◌+◌, ◌^◌, ◌≤◌, ◌<◌, ◌≡◌, sym, List, arith, eqb, pow_pos}
 use lib.Count.{ones}
 use Rattle.steps.specs.Answers.{Tape}
 use Rattle.steps.specs.Bits.{count_bits}

@@ -1,10 +1,5 @@
 -- Cases of a proposal, as one table under one statement, `proposal_cases`, which is proved by computing the definitions. Assumes nothing.
-use Prim.Native.Nat.{ℕ}
-use mathlib.Core.Path.{refl}
-use mathlib.Core.List.{List, [], ◌∷◌}
-use mathlib.Core.Bool.{true, false}
-use Rattle.std.specs.Prelude.{Option, None, Some}
-use lib.ListN.{length}
+use Rattle.std.proofs.Common.{ℕ, refl, List, [], ◌∷◌, true, false, Option, None, Some, length}
 use Rattle.steps.specs.Steps.{Item}
 use Rattle.steps.specs.Runs.{Verdict, going, refused, failed, Run}
 use Rattle.steps.proofs.CaseTables

@@ -1,10 +1,5 @@
 -- ONE WALK of a proposal, for every property of runs that has the rules. Assumes nothing.
-use Prim.Native.Nat.{ℕ, ◌+◌}
-use mathlib.Core.Path.{◌≡◌, refl}
-use mathlib.Core.Bool.{true}
-use Rattle.std.specs.Prelude.{Option, None, Some}
-use native.Mathlib.Omega.{arith}
-use lib.Dec.{eqb}
+use Rattle.std.proofs.Common.{ℕ, ◌+◌, ◌≡◌, refl, true, Option, None, Some, arith, eqb}
 use Rattle.steps.specs.declared.reader.Content.{Content}
 use Rattle.steps.specs.Table.{within}
 use Rattle.steps.specs.Answers.{Tape}

@@ -1,8 +1,6 @@
 -- Which numbers share a place of a ring. Assumes nothing.
-use Prim.Native.Nat.{ℕ, suc, ◌+◌, ◌/◌, ◌%◌, ◌≤◌, ◌<◌}
-use native.Mathlib.Nat.{div-add-mod, mul-le-mul_left, mul-suc, le_antisymm, lt_of_not-le, le_of_suc-le-suc}
-use native.Mathlib.Omega.{arith}
-use mathlib.Core.Path.{◌≡◌, sym, ◌∙◌}
+use Rattle.std.proofs.Common.{ℕ, suc, ◌+◌, ◌/◌, ◌%◌, ◌≤◌, ◌<◌, mul-le-mul_left, mul-suc, le_antisymm, lt_of_not-le, le_of_suc-le-suc, arith, ◌≡◌, sym, ◌∙◌}
+use Rattle.std.proofs.Math.Nat.{div-add-mod}
 
 -- of m numbers in a row no two have the same place modulo m
 quotient_le : (m d e : ℕ) → d % m ≡ e % m → e < d + m → e / m ≤ d / m

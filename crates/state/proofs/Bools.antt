@@ -1,9 +1,5 @@
 -- Tests that all hold. Assumes nothing.
-use Prim.Native.Nat.{ℕ, zero, suc}
-use mathlib.Core.Path.{◌≡◌, refl}
-use mathlib.Core.List.{List, [], ◌∷◌}
-use mathlib.Core.Bool.{Bool, true}
-use lib.ListN.{get_or}
+use Rattle.std.proofs.Common.{ℕ, zero, suc, ◌≡◌, refl, List, [], ◌∷◌, Bool, true, get_or}
 use Rattle.std.proofs.lemmas.Bool.{and_parts}
 use Rattle.state.specs.State.{all_hold}
 

@@ -1,6 +1,5 @@
 -- The table of src/lengths.rt as a list, since the checker does not take it from the code. A row for each N. Made by tools/lengths.py.
-use Prim.Native.Nat.{ℕ}
-use mathlib.Core.List.{List, [], ◌∷◌}
+use Rattle.std.proofs.Common.{ℕ, List, [], ◌∷◌}
 
 abbrev pub lengths : List ℕ
 lengths =

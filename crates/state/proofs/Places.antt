@@ -1,14 +1,6 @@
 -- Places in a list: parts of one length, one after the other from some word on, and what writing one of them leaves. Assumes nothing.
-use Prim.Native.Nat.{ℕ, suc, ◌+◌, ◌*◌, ◌-◌, ◌≤◌, ◌<◌}
-use native.Mathlib.Nat.{mul-le-mul_right, suc-mul}
-use native.Mathlib.Omega.{arith}
-use mathlib.Core.Path.{◌≡◌, refl, sym, ap, ◌∙◌}
-use mathlib.Core.List.{List, ◌++◌}
-use mathlib.Core.Bool.{Bool, true, false}
-use lib.Dec.{ltb}
-use lib.ListN.{length, get_or, take, drop, length-append, length-drop, get_or-append, take-append-drop}
-use lib.Seq.{get_or-append-add, get_or-take, get_or-drop, length-take-le, ext_get_or, drop_at, take_at, drop-drop}
-use borrow.Author.Tests.{ltb-true, ltb-false}
+use Rattle.std.proofs.Common.{ℕ, suc, ◌+◌, ◌*◌, ◌-◌, ◌≤◌, ◌<◌, mul-le-mul_right, suc-mul, arith, ◌≡◌, refl, sym, ap, ◌∙◌, List, ◌++◌, Bool, true, false, ltb, length, get_or, take, drop, length-append, length-drop, take-append-drop, get_or-append-add, get_or-take, get_or-drop, length-take-le, ext_get_or, drop_at, take_at, drop-drop, ltb-true, ltb-false}
+use Rattle.std.proofs.Math.ListN.{get_or-append}
 
 -- A PART OF A LIST, `size` words from word `at` on, is replaced
 abbrev pub pasted : List ℕ → ℕ → ℕ → List ℕ → List ℕ

@@ -1,14 +1,6 @@
 -- Laws for the code that checks a state's ranges, and what a state in range gives the code below. Assumes nothing.
-use Prim.Native.Nat.{ℕ, suc, ◌+◌, ◌-◌, ◌*◌, ◌≤◌, ◌<◌}
-use mathlib.Core.Path.{◌≡◌, refl, sym, ◌∙◌}
-use mathlib.Core.List.{List, [], ◌∷◌}
-use mathlib.Core.Bool.{Bool, true, false, ◌&&◌, ◌||◌, and-true, and_assoc}
-use native.Mathlib.Omega.{arith}
-use native.Mathlib.Nat.{add-mul}
-use lib.ListN.{length, get_or, take, drop}
-use lib.Bits.{bit_or}
-use lib.Dec.{eqb, leb, ltb}
-use borrow.Author.Tests.{leb-true, ltb-true, eq-eqb}
+use Rattle.std.proofs.Common.{ℕ, suc, ◌+◌, ◌-◌, ◌*◌, ◌≤◌, ◌<◌, ◌≡◌, refl, sym, ◌∙◌, List, [], ◌∷◌, Bool, true, false, ◌&&◌, ◌||◌, arith, add-mul, length, get_or, take, drop, bit_or, eqb, leb, ltb, leb-true, ltb-true, eq-eqb}
+use Rattle.std.proofs.Math.Bool.{and-true, and_assoc}
 use Rattle.std.proofs.lemmas.Bool.{false_from_ne_true, and_parts}
 use Rattle.steps.specs.Numbers.{node_limit, ahead_limit}
 use Rattle.subset.specs.Words.{epoch_length}

@@ -1,15 +1,6 @@
 -- The range rule of the state, taken apart and put together again, and that what the engine writes keeps it. Assumes nothing.
-use Prim.Native.Nat.{ℕ, zero, suc, ◌+◌, ◌*◌, ◌-◌, ◌%◌, ◌≤◌, ◌<◌}
-use mathlib.Core.Path.{◌≡◌, refl, ◌∙◌, sym}
-use mathlib.Core.List.{List}
-use mathlib.Core.Bool.{Bool, true, false, ◌&&◌}
-use native.Mathlib.Omega.{arith}
-use native.Mathlib.Nat.{mod-lt, mod-eq_of_lt, suc-mul}
-use lib.ListN.{length, get_or, set, take, drop}
-use lib.Seq.{get_or-set_same, get_or-set_other}
-use lib.Dec.{eqb, leb}
-use borrow.Author.Tests.{eqb-true, eqb-false, leb-true, ltb-true, eq-eqb, le-leb}
-use Rattle.std.proofs.lemmas.Bool.{and_parts, and_from}
+use Rattle.std.proofs.Common.{ℕ, zero, suc, ◌+◌, ◌*◌, ◌-◌, ◌%◌, ◌≤◌, ◌<◌, ◌≡◌, refl, ◌∙◌, sym, List, Bool, true, false, ◌&&◌, arith, mod-lt, mod-eq_of_lt, suc-mul, length, get_or, set, take, drop, get_or-set_same, get_or-set_other, eqb, leb, eqb-true, leb-true, ltb-true, eq-eqb, le-leb}
+use Rattle.std.proofs.lemmas.Bool.{and_parts, and_from, eqb-false}
 use Rattle.steps.specs.Numbers.{last_epoch, fault_limit}
 use Rattle.network.specs.Network.{Network}
 use Rattle.steps.proofs.Ranges.{zeros_at, below_zeros}

@@ -1,12 +1,8 @@
 -- In which epochs each schedule encrypts, and which numbers a schedule may have.
-use Prim.Native.Nat.{ℕ, zero, suc, ◌+◌, ◌-◌, ◌*◌, ◌%◌, ◌≤◌, ◌<◌}
-use native.Mathlib.Nat.{mod-lt, mod-eq_of_lt, mul-add-mod_self_right}
-use native.Mathlib.Omega.{arith}
-use mathlib.Core.Path.{◌≡◌, refl, sym, ◌∙◌}
-use mathlib.Core.Bool.{true, false, true≢false}
-use lib.Dec.{eqb, leb, ltb, leb-suc-suc}
-use borrow.Author.Tests.{lt-leb, lt-ltb, le-ltb, ne_eqb, leb-true}
-use Rattle.std.proofs.lemmas.Bool.{and_parts}
+use Rattle.std.proofs.Common.{ℕ, zero, suc, ◌+◌, ◌-◌, ◌*◌, ◌%◌, ◌≤◌, ◌<◌, mod-lt, mod-eq_of_lt, arith, ◌≡◌, refl, sym, ◌∙◌, true, false, true≢false, eqb, leb, ltb, lt-ltb, le-ltb, ne_eqb, leb-true}
+use Rattle.std.proofs.Math.Dec.{leb-suc-suc}
+use Rattle.std.proofs.Math.Nat.{mul-add-mod_self_right}
+use Rattle.std.proofs.lemmas.Bool.{and_parts, lt-leb}
 use Rattle.steps.specs.Numbers.{schedule_limit}
 use Rattle.steps.specs.Table.{within}
 use Rattle.epochwords.proofs.RangeCode.{none_below}

@@ -1,11 +1,6 @@
 -- The places of the state: what writing one epoch, or a word of the header, leaves of the others. Assumes nothing.
-use Prim.Native.Nat.{ℕ, ◌+◌, ◌*◌, ◌%◌, ◌≤◌, ◌<◌}
-use native.Mathlib.Nat.{mod-lt}
-use native.Mathlib.Omega.{arith}
-use mathlib.Core.Path.{◌≡◌, refl, sym, ap, ◌∙◌}
-use mathlib.Core.List.{List}
-use lib.ListN.{length, get_or, set, take, drop, replicate, length-replicate, length-set}
-use lib.Seq.{get_or-set_other, drop-set-lt}
+use Rattle.std.proofs.Common.{ℕ, ◌+◌, ◌*◌, ◌%◌, ◌≤◌, ◌<◌, mod-lt, arith, ◌≡◌, refl, sym, ap, ◌∙◌, List, length, get_or, set, take, drop, replicate, length-set, get_or-set_other, drop-set-lt}
+use Rattle.std.proofs.lemmas.List.{length-replicate}
 use Rattle.subset.specs.Words.{epoch_length}
 use Rattle.state.specs.State.{header_length, nodes_at, faulty_at, ahead_at, own_at, key_at, strategy_at, schedule_at, first_number_at, second_number_at, epoch_at, epochs_at, state_length, nodes, ahead, net_of, strategy_of, encrypted_in, place_of, epoch_words, with_epoch, without_epoch}
 use Rattle.state.proofs.Places.{pasted, pasted_own, pasted_twice, place_fits, place_long, placed_long, placed_before, placed_in, placed_other}

@@ -1,11 +1,6 @@
 -- Laws for the code that finds an epoch in the state, and what it may take for granted (`StateWords`). Assumes nothing.
-use Prim.Native.Nat.{ℕ, ◌+◌, ◌*◌, ◌-◌, ◌%◌, ◌≤◌, ◌<◌}
-use mathlib.Core.Path.{◌≡◌, refl, sym, ap, ◌∙◌}
-use mathlib.Core.List.{List, ◌++◌}
-use native.Mathlib.Omega.{arith}
-use native.Mathlib.Nat.{mul-le-mul_right}
-use lib.ListN.{length, get_or, set, take, drop, replicate, length-replicate, length-set}
-use lib.Seq.{drop-drop, get_or-set_other}
+use Rattle.std.proofs.Common.{ℕ, ◌+◌, ◌*◌, ◌-◌, ◌%◌, ◌≤◌, ◌<◌, ◌≡◌, refl, sym, ap, ◌∙◌, List, ◌++◌, arith, mul-le-mul_right, length, get_or, set, take, drop, replicate, length-set, drop-drop, get_or-set_other}
+use Rattle.std.proofs.lemmas.List.{length-replicate}
 use Rattle.steps.specs.Numbers.{node_limit, ahead_limit, last_epoch}
 use Rattle.subset.specs.Words.{epoch_length}
 use Rattle.epochwords.specs.Shape.{EpochWords}

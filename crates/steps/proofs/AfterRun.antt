@@ -1,8 +1,5 @@
 -- What holds after a run that is neither refused nor fails: what it gives, with the log left out. Assumes nothing.
-use Prim.Native.Nat.{ℕ}
-use mathlib.Core.Path.{◌≡◌, refl}
-use mathlib.Core.List.{List, ◌∷◌}
-use mathlib.Core.Bool.{Bool, cond}
+use Rattle.std.proofs.Common.{ℕ, ◌≡◌, refl, List, ◌∷◌, Bool, cond}
 use Rattle.steps.specs.Answers.{Rec, Tape, tape, ask, ask_about}
 use Rattle.steps.specs.Steps.{Entry}
 use Rattle.steps.specs.Runs.{going, Run, before, inside, onward, heard}

@@ -1,8 +1,6 @@
 -- What the tables of computed cases are made of. A crate's table has its operations, what is seen of them, and `apply`; it stands under one
 -- statement, `AllHold`, which is proved by computing the definitions. Assumes nothing.
-use Prim.Native.Nat.{ℕ}
-use mathlib.Core.Path.{◌≡◌}
-use mathlib.Core.List.{List, [], ◌∷◌}
+use Rattle.std.proofs.Common.{ℕ, ◌≡◌, List, [], ◌∷◌}
 use Rattle.steps.specs.Answers.{Tape, tape_of}
 use Rattle.steps.specs.Steps.{Item, item, chain_words, first_at}
 

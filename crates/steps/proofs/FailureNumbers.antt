@@ -1,7 +1,5 @@
 -- The numbers with which a run can fail. Assumes nothing.
-use Prim.Native.Nat.{ℕ}
-use mathlib.Core.Path.{◌≡◌}
-use mathlib.Core.Bool.{Bool, true}
+use Rattle.std.proofs.Common.{ℕ, ◌≡◌, Bool, true}
 use Rattle.steps.specs.Answers.{Answer}
 use Rattle.steps.specs.Answers.{Got, Refused}
 use Rattle.steps.specs.Answers.{Tape, Asked, ask, ask_about}

@@ -1,11 +1,5 @@
 -- What a run that is neither refused nor fails gives, with its log, and what asking for an answer that takes nothing reads of the chain. Assumes nothing.
-use Prim.Native.Nat.{ℕ}
-use mathlib.Core.Path.{◌≡◌, refl, ◌∙◌}
-use mathlib.Core.List.{List, [], ◌∷◌, ◌++◌}
-use mathlib.Core.Bool.{Bool, true, false, cond, ◌&&◌}
-use Rattle.std.specs.Prelude.{Option}
-use lib.Dec.{eqb}
-use borrow.Author.Tests.{eqb-true}
+use Rattle.std.proofs.Common.{ℕ, ◌≡◌, refl, ◌∙◌, List, [], ◌∷◌, ◌++◌, Bool, true, false, cond, ◌&&◌, Option, eqb, eqb-true}
 use Rattle.std.proofs.lemmas.Bool.{and_parts}
 use Rattle.steps.specs.Answers.{Rec, Tape, tape, ask_for, ask, ask_about}
 use Rattle.steps.specs.Table.{within}

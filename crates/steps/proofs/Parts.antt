@@ -1,11 +1,6 @@
 -- Laws of the parts of an answer. Assumes nothing.
-use Prim.Native.Nat.{ℕ}
-use mathlib.Core.Path.{◌≡◌}
-use mathlib.Core.List.{List, [], ◌∷◌, ◌++◌}
-use mathlib.Core.Bool.{true, false}
-use borrow.Author.Tests.{eq-eqb, ne_eqb}
+use Rattle.std.proofs.Common.{ℕ, ◌≡◌, List, [], ◌∷◌, ◌++◌, true, false, eq-eqb, ne_eqb, Option}
 use Rattle.steps.specs.declared.reader.Content.{Content}
-use Rattle.std.specs.Prelude.{Option}
 use Rattle.steps.specs.Answers.{Rec, tape}
 use Rattle.steps.specs.Steps.{Entry, message, fault, Out, put_entry, put_all}
 use Rattle.steps.specs.Parts.{is_part, message_kind, fault_kind, part_entries, last_output, PartsTold, parts_from}

@@ -1,11 +1,5 @@
 -- Following the chains of a finished step gives its three lists. Assumes nothing.
-use Prim.Native.Nat.{ℕ, ◌+◌, ◌*◌, ◌/◌, ◌<◌}
-use mathlib.Core.Path.{◌≡◌, refl, sym, ap, ◌∙◌}
-use mathlib.Core.List.{List, [], ◌∷◌, ◌++◌, append_assoc, map}
-use native.Mathlib.Omega.{arith}
-use native.Mathlib.Nat.{add-zero}
-use lib.ListN.{length, get_or, drop, length-append, length-drop}
-use lib.Seq.{get_or-drop, drop-drop, drop_at}
+use Rattle.std.proofs.Common.{ℕ, ◌+◌, ◌*◌, ◌/◌, ◌<◌, ◌≡◌, refl, sym, ap, ◌∙◌, List, [], ◌∷◌, ◌++◌, append_assoc, map, arith, add-zero, length, get_or, drop, length-append, length-drop, get_or-drop, drop-drop, drop_at}
 use Rattle.steps.specs.Answers.{Rec, link, rec_at, chain}
 use Rattle.steps.specs.Steps.{Entry, Item, item, messages, faults, outputs, link_after, chain_words, first_at, laid_out, step_words, written}
 use Rattle.steps.proofs.ChainLaws.{on_record_lem, off_at_zero, link_up, link_end, chain_on, chain_off}

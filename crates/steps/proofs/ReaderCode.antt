@@ -1,11 +1,5 @@
 -- What the reader's methods rest on: what stands at a place, and what taking it tells. Assumes nothing.
-use Prim.Native.Nat.{ℕ, ◌+◌, ◌*◌}
-use mathlib.Core.Path.{◌≡◌, refl, sym, ap, ◌∙◌}
-use mathlib.Core.List.{List, [], ◌∷◌}
-use mathlib.Core.Bool.{Bool, true, false, true≢false}
-use lib.ListN.{length, get_or, drop}
-use native.Mathlib.Omega.{arith}
-use Rattle.std.specs.Prelude.{Option, Some, None, Ok, Err, is_some, not, ◌<◌}
+use Rattle.std.proofs.Common.{ℕ, ◌+◌, ◌*◌, ◌≡◌, refl, sym, ap, ◌∙◌, List, [], ◌∷◌, Bool, true, false, true≢false, length, get_or, drop, arith, Option, Some, None, Ok, Err, is_some, not, ◌<◌}
 use Rattle.steps.specs.declared.reader.Record.{Record}
 use Rattle.steps.specs.declared.kinds.Stop.TheVariants.{NotNext}
 use Rattle.steps.specs.Answers.{Tape, Rec, tape, link, rec_at, on_record, chain, first_record, is_end, ask_for}

@@ -1,6 +1,5 @@
 -- Laws of runs that have two parts, or are a part of another. Assumes nothing.
-use mathlib.Core.Path.{◌≡◌, refl, ap}
-use mathlib.Core.List.{append_assoc}
+use Rattle.std.proofs.Common.{◌≡◌, refl, ap, append_assoc}
 use Rattle.steps.specs.Answers.{Tape}
 use Rattle.steps.specs.Runs.{Verdict, going, refused, failed, Run, before, onward_as, onward, inside, Left, leaves}
 use Rattle.steps.specs.Steps.{Out}

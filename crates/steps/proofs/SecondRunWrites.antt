@@ -1,12 +1,8 @@
 -- What a second run writes is the finished step. Assumes nothing.
-use Prim.Native.Nat.{ℕ, suc, ◌+◌, ◌*◌, ◌/◌, ◌≤◌, ◌<◌}
-use mathlib.Core.Path.{◌≡◌, refl, sym, ap, ◌∙◌}
-use mathlib.Core.List.{List, [], ◌∷◌, ◌++◌}
-use native.Mathlib.Omega.{arith}
-use native.Mathlib.Nat.{add-zero}
-use lib.ListN.{length, set, drop, length-append}
-use lib.Seq.{sets, length-sets, sets-eq, set_comm}
-use borrow.Author.Tests.{eq-eqb, ne_eqb, lt-leb, lt-ltb}
+use Rattle.std.proofs.Common.{ℕ, suc, ◌+◌, ◌*◌, ◌/◌, ◌≤◌, ◌<◌, ◌≡◌, refl, sym, ap, ◌∙◌, List, [], ◌∷◌, ◌++◌, arith, add-zero, length, set, drop, length-append, eq-eqb, ne_eqb, lt-ltb}
+use Rattle.std.proofs.Math.Seq.{sets, length-sets, sets-eq}
+use Rattle.std.proofs.lemmas.Bool.{lt-leb}
+use Rattle.std.proofs.lemmas.List.{set_comm}
 use Rattle.steps.specs.declared.step.Chain.{Chain}
 use Rattle.steps.specs.declared.step.Step.{Step}
 use Rattle.steps.specs.Steps.{Entry, message, fault, output, Item, messages, faults, outputs, chained, link_after, chain_words, first_at, laid_out, step_words, written, written_failed, out, next_of, advance, put_at, put_all, counting, writing, records, first_of, put_header}

@@ -1,5 +1,5 @@
 -- WHAT EVERY WRITE KEEPS of a state, a run keeps, whatever its verdict. Assumes nothing.
-use Prim.Native.Nat.{ℕ}
+use Rattle.std.proofs.Common.{ℕ}
 use Rattle.steps.specs.Answers.{Answer}
 use Rattle.steps.specs.Answers.{Got, Refused}
 use Rattle.steps.specs.Answers.{Tape, Asked, ask, ask_about}

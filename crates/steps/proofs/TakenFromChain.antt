@@ -1,14 +1,6 @@
 -- What is taken from the first answer of a chain and its parts, and what reply 5's rule says of them. Assumes nothing.
-use Prim.Native.Nat.{ℕ, zero, suc, ◌*◌, ◌≤◌, ◌<◌}
-use mathlib.Core.Path.{◌≡◌, refl, sym, ap, ◌∙◌}
-use mathlib.Core.List.{List, [], ◌∷◌}
-use mathlib.Core.Bool.{Bool, true, false, cond, ◌&&◌, ◌||◌, false≢true}
-use Rattle.std.specs.Prelude.{Option, None, Some}
-use native.Mathlib.Omega.{arith}
-use lib.ListN.{length, get_or}
-use lib.Dec.{eqb, leb, ltb}
-use borrow.Author.Tests.{eqb-true, eqb-false, ne_eqb, leb-true, ltb-true, lt-leb}
-use Rattle.std.proofs.lemmas.Bool.{and_parts}
+use Rattle.std.proofs.Common.{ℕ, zero, suc, ◌*◌, ◌≤◌, ◌<◌, ◌≡◌, refl, sym, ap, ◌∙◌, List, [], ◌∷◌, Bool, true, false, cond, ◌&&◌, ◌||◌, Option, None, Some, arith, length, get_or, eqb, leb, ltb, eqb-true, ne_eqb, leb-true, ltb-true}
+use Rattle.std.proofs.lemmas.Bool.{and_parts, false≢true, eqb-false, lt-leb}
 use Rattle.std.proofs.Math.Bool.{and-false}
 use Rattle.steps.specs.declared.reader.Content.{Content}
 use Rattle.steps.specs.Answers.{Rec, rec_at, chain, tape_of}

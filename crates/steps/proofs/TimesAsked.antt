@@ -1,10 +1,5 @@
 -- How often an answer about a proposer was asked for stays the same over answers of other kinds. Assumes nothing.
-use Prim.Native.Nat.{ℕ}
-use native.Mathlib.Omega.{arith}
-use mathlib.Core.Path.{◌≡◌, refl}
-use mathlib.Core.List.{List, [], ◌∷◌, ◌++◌}
-use mathlib.Core.Bool.{Bool, true}
-use lib.Dec.{eqb}
+use Rattle.std.proofs.Common.{ℕ, arith, ◌≡◌, refl, List, [], ◌∷◌, ◌++◌, Bool, true, eqb}
 use Rattle.steps.specs.Answers.{Rec}
 use Rattle.steps.specs.Times.{times_asked}
 use Rattle.steps.proofs.ReadByKinds.{OfKinds, Past, Others}

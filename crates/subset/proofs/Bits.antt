@@ -1,15 +1,9 @@
 -- A WORD OF BITS has the bits that it was made of, and the language's count of ones counts them; so for the proposals whose tag is in a set. Assumes nothing.
-use Prim.Native.Nat.{ℕ, zero, suc, ◌+◌, ◌*◌, ◌/◌, ◌%◌, ◌^◌, ◌≤◌, ◌<◌, min}
-use mathlib.Core.Path.{◌≡◌, refl, sym, ap, ap₂, ◌∙◌}
-use mathlib.Core.Logic.{◌⊎◌, inl, inr}
-use mathlib.Core.List.{List}
-use mathlib.Core.Bool.{Bool, true, false, cond, ◌&&◌, not}
-use native.Mathlib.Omega.{arith}
-use native.Mathlib.Nat.{two-pow-succ, eq-or-lt_of_le, div-one}
-use lib.Dec.{eqb}
-use lib.Pow.{pow_pos, high, shr-shr, shr_lt}
-use lib.Count.{ones, ones_step, ones_cat}
-use borrow.Author.Tests.{eq-eqb, ne_eqb}
+use Rattle.std.proofs.Common.{ℕ, zero, suc, ◌+◌, ◌*◌, ◌/◌, ◌%◌, ◌^◌, ◌≤◌, ◌<◌, min, ◌≡◌, refl, sym, ap, ap₂, ◌∙◌, ◌⊎◌, inl, inr, List, Bool, true, false, cond, ◌&&◌, not, arith, eq-or-lt_of_le, div-one, eqb, pow_pos, shr-shr, shr_lt, eq-eqb, ne_eqb}
+use Rattle.std.proofs.Math.Nat.{two-pow-succ}
+use Rattle.std.proofs.Math.Pow.{high}
+use Rattle.std.proofs.lemmas.Nat.{ones_cat}
+use lib.Count.{ones, ones_step}
 use Rattle.steps.specs.Bits.{has_bit, count_bits, bits_from}
 use Rattle.proposal.specs.declared.ProposalState.{ProposalState}
 use Rattle.proposal.specs.declared.ProposalState.TheVariants.{Ongoing, HasValue, Accepted, Complete}

@@ -1,6 +1,5 @@
 -- How many entries the subset writes: at most one for each record that it reads. Assumes nothing.
-use Prim.Native.Nat.{ℕ}
-use mathlib.Core.List.{List}
+use Rattle.std.proofs.Common.{ℕ, List}
 use Rattle.network.specs.declared.network_info.NetworkInfo.{NetworkInfo}
 use Rattle.steps.specs.declared.reader.Content.{Content}
 use Rattle.steps.specs.Answers.{Tape}

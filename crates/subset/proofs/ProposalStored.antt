@@ -1,14 +1,6 @@
 -- What storing a proposal and adding a contribution change of an epoch's words, and what they leave. Assumes nothing.
-use Prim.Native.Nat.{ℕ, ◌+◌, ◌<◌}
-use mathlib.Core.Path.{◌≡◌, refl, ap, ◌∙◌}
-use mathlib.Core.List.{List}
-use mathlib.Core.Bool.{Bool, true, false}
-use native.Mathlib.Omega.{arith}
-use native.Mathlib.Nat.{mul-le-mul_right, suc-mul}
-use lib.ListN.{length, get_or, set, length-set}
-use lib.Seq.{get_or-set_same, get_or-set_other}
-use lib.Dec.{eqb, ltb}
-use borrow.Author.Tests.{eqb-true, eqb-false, ltb-true, ltb-false, lt-ltb}
+use Rattle.std.proofs.Common.{ℕ, ◌+◌, ◌<◌, ◌≡◌, refl, ap, ◌∙◌, List, Bool, true, false, arith, mul-le-mul_right, suc-mul, length, get_or, set, length-set, get_or-set_same, get_or-set_other, eqb, ltb, eqb-true, ltb-true, ltb-false, lt-ltb}
+use Rattle.std.proofs.lemmas.Bool.{eqb-false}
 use Rattle.proposal.specs.declared.ProposalState.{ProposalState}
 use Rattle.proposal.specs.declared.ProposalState.TheVariants.{Ongoing, HasValue, Accepted, Complete}
 use Rattle.subset.specs.Words.{epoch_length, count_at, record_at, proposal_at, value_at, arrival_at, proposal_of, tag_of, value_of, load_proposal, store_proposal, add_contribution}

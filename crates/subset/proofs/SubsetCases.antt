@@ -1,9 +1,5 @@
 -- Cases of the subset, as one table under one statement, `subset_cases`, which is proved by computing the definitions. Assumes nothing.
-use Prim.Native.Nat.{ℕ, zero, suc, ◌+◌, ◌-◌, ◌/◌}
-use mathlib.Core.Path.{refl}
-use mathlib.Core.List.{List, [], ◌∷◌}
-use mathlib.Core.Bool.{Bool, true, false}
-use lib.ListN.{length, get_or}
+use Rattle.std.proofs.Common.{ℕ, zero, suc, ◌+◌, ◌-◌, ◌/◌, refl, List, [], ◌∷◌, Bool, true, false, length, get_or}
 use Rattle.steps.specs.declared.reader.Content.TheVariants.{Broadcast, Agreement}
 use Rattle.network.specs.declared.network_info.NetworkInfo.{NetworkInfo}
 use Rattle.steps.specs.Answers.{Tape}

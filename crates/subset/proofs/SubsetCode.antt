@@ -1,12 +1,5 @@
 -- What a call of the subset leaves, from what its parts left. Assumes nothing.
-use Prim.Native.Nat.{ℕ, suc, ◌+◌, ◌-◌, ◌≤◌, ◌<◌}
-use native.Mathlib.Omega.{arith}
-use mathlib.Core.Path.{◌≡◌, refl, ap, ◌∙◌}
-use mathlib.Core.List.{List}
-use mathlib.Core.Bool.{Bool, true, false, cond}
-use lib.ListN.{set, get_or}
-use borrow.Author.Tests.{eq-eqb, le-ltb}
-use Rattle.std.specs.Prelude.{Option, Result, Ok, Err}
+use Rattle.std.proofs.Common.{ℕ, suc, ◌+◌, ◌-◌, ◌≤◌, ◌<◌, arith, ◌≡◌, refl, ap, ◌∙◌, List, Bool, true, false, cond, set, get_or, eq-eqb, le-ltb, Option, Result, Ok, Err}
 use Rattle.network.specs.declared.network_info.NetworkInfo.{NetworkInfo}
 use Rattle.network.specs.Network.{num_correct}
 use Rattle.steps.specs.declared.kinds.Stop.{Stop}

@@ -1,13 +1,5 @@
 -- ONE WALK of the subset, for every property of runs that has the rules. Assumes nothing.
-use Prim.Native.Nat.{ℕ, zero, suc, ◌+◌, ◌≤◌, ◌<◌}
-use mathlib.Core.Path.{refl}
-use mathlib.Core.List.{List}
-use mathlib.Core.Bool.{◌||◌}
-use Rattle.std.specs.Prelude.{Option, None}
-use native.Mathlib.Omega.{arith}
-use lib.ListN.{set}
-use lib.Dec.{eqb, ltb}
-use borrow.Author.Tests.{ltb-true}
+use Rattle.std.proofs.Common.{ℕ, zero, suc, ◌+◌, ◌≤◌, ◌<◌, refl, List, ◌||◌, Option, None, arith, set, eqb, ltb, ltb-true}
 use Rattle.network.specs.declared.network_info.NetworkInfo.{NetworkInfo}
 use Rattle.steps.specs.declared.reader.Content.{Content}
 use Rattle.steps.specs.declared.reader.Content.TheVariants.{Broadcast, Agreement}

@@ -1,11 +1,5 @@
 -- Runs of four nodes, computed: the premises of `subset_rule` hold of the first, and it has a vote 1 and a vote 0; in the others, calls that ask nothing. Assumes nothing.
-use Prim.Native.Nat.{ℕ}
-use mathlib.Core.Path.{◌≡◌, refl}
-use mathlib.Core.List.{List, [], ◌∷◌, ◌++◌}
-use mathlib.Core.Bool.{true, false}
-use Rattle.std.specs.Prelude.{Option, None, Some}
-use native.Mathlib.Omega.{arith}
-use lib.ListN.{get_or}
+use Rattle.std.proofs.Common.{ℕ, ◌≡◌, refl, List, [], ◌∷◌, ◌++◌, true, false, Option, None, Some, arith, get_or}
 use Rattle.network.specs.declared.network_info.NetworkInfo.{NetworkInfo}
 use Rattle.network.specs.Network.{Network}
 use Rattle.steps.specs.Taken.{first_taken, of_value, of_decision, is_asked, ones_from}

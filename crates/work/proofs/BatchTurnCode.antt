@@ -1,13 +1,7 @@
 -- A turn of the loop over batches, from what trying to hand one out left. For the proofs of the code. Assumes nothing.
-use Prim.Native.Nat.{ℕ, suc, ◌+◌, ◌-◌, ◌<◌}
-use native.Mathlib.Omega.{arith}
-use mathlib.Core.Path.{◌≡◌, refl, sym, ap, ◌∙◌}
-use mathlib.Core.List.{List}
-use mathlib.Core.Bool.{Bool, true, false}
-use borrow.Author.Tests.{eq-eqb, ne_eqb}
+use Rattle.std.proofs.Common.{ℕ, suc, ◌+◌, ◌-◌, ◌<◌, arith, ◌≡◌, refl, sym, ap, ◌∙◌, List, Bool, true, false, eq-eqb, ne_eqb, Err}
 use Rattle.steps.specs.Answers.{Tape}
 use Rattle.steps.specs.Steps.{Out, put_all}
-use Rattle.std.specs.Prelude.{Err}
 use Rattle.steps.specs.declared.kinds.Stop.{Stop}
 use Rattle.steps.specs.declared.kinds.Stop.TheVariants.{NotNext, Failed}
 use Rattle.steps.specs.Kinds.{verdict_of}

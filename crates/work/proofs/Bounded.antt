@@ -1,12 +1,5 @@
 -- HOW LONG THE LOG OF A CALL IS: at most 1,552 entries, so that no list of a step is counted past its limit of 2^32. Assumes nothing.
-use Prim.Native.Nat.{ℕ, ◌+◌, ◌*◌, ◌/◌, ◌≤◌, ◌<◌}
-use mathlib.Core.Path.{◌≡◌, ap}
-use mathlib.Core.List.{List}
-use mathlib.Core.Bool.{true}
-use native.Mathlib.Omega.{arith}
-use native.Mathlib.Nat.{mul-le-mul_right, mul-le-mul_left}
-use lib.ListN.{length}
-use lib.Dec.{ltb}
+use Rattle.std.proofs.Common.{ℕ, ◌+◌, ◌*◌, ◌/◌, ◌≤◌, ◌<◌, ◌≡◌, ap, List, true, arith, mul-le-mul_right, mul-le-mul_left, length, ltb}
 use Rattle.steps.specs.Table.{table_ok}
 use Rattle.steps.specs.Answers.{Tape, tape_of}
 use Rattle.steps.specs.Steps.{Entry, out, put_all, counting, writing, records as records_of, put_header, written}

@@ -1,14 +1,8 @@
 -- Clearing epochs one by one is skipping past them. Over every state of the right shape, whatever its past. Assumes nothing.
-use Prim.Native.Nat.{ℕ, zero, suc, ◌+◌, ◌≤◌, ◌<◌}
-use native.Mathlib.Numerals.{add-one}
-use native.Mathlib.Omega.{arith}
-use mathlib.Core.Path.{◌≡◌, refl, sym, ap, ◌∙◌}
-use mathlib.Core.List.{List, ◌++◌}
-use mathlib.Core.Bool.{Bool, true, false, cond}
-use lib.Dec.{leb, ltb}
-use lib.ListN.{set, take, drop, replicate, length-take}
-use lib.Seq.{get_or-set_other, take-set-lt, drop-set-lt, set-append_left, set-set, set_comm}
-use borrow.Author.Tests.{lt-leb, lt-ltb, le-ltb, leb-true, leb-false}
+use Rattle.std.proofs.Common.{ℕ, zero, suc, ◌+◌, ◌≤◌, ◌<◌, add-one, arith, ◌≡◌, refl, sym, ap, ◌∙◌, List, ◌++◌, Bool, true, false, cond, leb, ltb, set, take, drop, replicate, length-take, get_or-set_other, drop-set-lt, set-set, lt-ltb, le-ltb, leb-true, leb-false}
+use Rattle.std.proofs.Math.Seq.{take-set-lt}
+use Rattle.std.proofs.lemmas.Bool.{lt-leb}
+use Rattle.std.proofs.lemmas.List.{set-append_left, set_comm}
 use Rattle.subset.specs.Words.{epoch_length}
 use Rattle.state.specs.State.{header_length, nodes_at, ahead_at, epoch_at, input_at, nodes, ahead, current_epoch, place_of, epoch_words, with_epoch, without_epoch, state_ok}
 use Rattle.work.specs.HoneyBadger.{update_epoch, clear_below, skip_to_epoch}

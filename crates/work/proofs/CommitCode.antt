@@ -1,12 +1,5 @@
 -- Laws for the code that writes the state. Assumes nothing.
-use Prim.Native.Nat.{ℕ, suc, ◌+◌, ◌-◌, ◌≤◌, ◌<◌, min}
-use mathlib.Core.Path.{◌≡◌, refl, sym}
-use mathlib.Core.Bool.{Bool, true, false}
-use mathlib.Core.List.{List}
-use native.Mathlib.Omega.{arith}
-use lib.Seq.{get_or-set_other}
-use lib.Dec.{ltb}
-use borrow.Author.Tests.{lt-ltb, ltb-true, ltb-false}
+use Rattle.std.proofs.Common.{ℕ, suc, ◌+◌, ◌-◌, ◌≤◌, ◌<◌, min, ◌≡◌, refl, sym, Bool, true, false, List, arith, get_or-set_other, ltb, lt-ltb, ltb-true, ltb-false}
 use Rattle.state.specs.State.{nodes, nodes_at, input_at, without_epoch}
 use Rattle.state.specs.Shape.{StateWords}
 use Rattle.state.proofs.WordsCode.{input_kept}

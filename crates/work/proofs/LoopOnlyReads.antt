@@ -1,9 +1,5 @@
 -- The loop over batches is a loop that only reads, and one skip. Assumes nothing.
-use Prim.Native.Nat.{ℕ, zero, suc, ◌+◌, ◌≤◌, ◌<◌}
-use native.Mathlib.Omega.{arith}
-use mathlib.Core.Path.{◌≡◌, refl, sym, ap, ◌∙◌}
-use mathlib.Core.List.{List}
-use mathlib.Core.Bool.{Bool, true, false}
+use Rattle.std.proofs.Common.{ℕ, zero, suc, ◌+◌, ◌≤◌, ◌<◌, arith, ◌≡◌, refl, sym, ap, ◌∙◌, List, Bool, true, false}
 use Rattle.steps.specs.Answers.{Tape}
 use Rattle.steps.specs.Runs.{Verdict, going, refused, failed, Run, ends, before, onward_as, onward, inside}
 use Rattle.epochwords.specs.Batch.{is_ready, output_batch}

@@ -1,9 +1,6 @@
 -- What the functions of a run leave, put together: one turn of the loop over batches, and an epoch's call before it. For the proofs of the code.
 -- Assumes nothing.
-use Prim.Native.Nat.{ℕ, suc, ◌+◌}
-use mathlib.Core.Path.{◌≡◌, sym, ap, ◌∙◌}
-use mathlib.Core.List.{List}
-use mathlib.Core.Bool.{true, false}
+use Rattle.std.proofs.Common.{ℕ, suc, ◌+◌, ◌≡◌, sym, ap, ◌∙◌, List, true, false}
 use Rattle.steps.specs.Answers.{Tape}
 use Rattle.steps.specs.Steps.{Out}
 use Rattle.steps.specs.Runs.{going, Run, Left, ends, inside, leaves}

@@ -1,15 +1,7 @@
 -- What skip does to the state. Assumes nothing.
-use Prim.Native.Nat.{ℕ, zero, suc, ◌+◌, ◌-◌, ◌%◌, ◌≤◌, ◌<◌}
-use native.Mathlib.Nat.{mod-lt, add-mod-mod, lt_of_not-le}
-use native.Mathlib.Omega.{arith}
-use mathlib.Core.Path.{◌≡◌, refl, sym, ap, ◌∙◌}
-use mathlib.Core.Logic.{◌≢◌}
-use mathlib.Core.List.{List}
-use mathlib.Core.Bool.{Bool, true, false, cond}
-use lib.Dec.{eqb, leb, ltb}
-use lib.ListN.{get_or, set, replicate, length-set}
-use lib.Seq.{get_or-set_same, get_or-set_other}
-use borrow.Author.Tests.{eqb-true, eqb-false, le-leb, lt-leb, ltb-true, lt-ltb}
+use Rattle.std.proofs.Common.{ℕ, zero, suc, ◌+◌, ◌-◌, ◌%◌, ◌≤◌, ◌<◌, mod-lt, lt_of_not-le, arith, ◌≡◌, refl, sym, ap, ◌∙◌, ◌≢◌, List, Bool, true, false, cond, eqb, leb, ltb, get_or, set, replicate, length-set, get_or-set_same, get_or-set_other, eqb-true, le-leb, ltb-true, lt-ltb}
+use Rattle.std.proofs.Math.Nat.{add-mod-mod}
+use Rattle.std.proofs.lemmas.Bool.{eqb-false, lt-leb}
 use Rattle.subset.specs.Words.{epoch_length}
 use Rattle.state.specs.State.{header_length, nodes, ahead, current_epoch, epoch_at, input_at, epoch_words, without_epoch, state_ok}
 use Rattle.work.specs.HoneyBadger.{clear_below, skip_to_epoch}

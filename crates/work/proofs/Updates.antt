@@ -1,11 +1,6 @@
 -- `update_epoch`: what it leaves of the state. Assumes nothing.
-use Prim.Native.Nat.{ℕ, ◌+◌, ◌≤◌, ◌<◌}
-use native.Mathlib.Nat.{add-mod_right}
-use native.Mathlib.Omega.{arith}
-use mathlib.Core.Path.{◌≡◌, sym, ◌∙◌}
-use mathlib.Core.List.{List}
-use lib.ListN.{get_or, set, replicate}
-use lib.Seq.{get_or-set_same, get_or-set_other}
+use Rattle.std.proofs.Common.{ℕ, ◌+◌, ◌≤◌, ◌<◌, arith, ◌≡◌, sym, ◌∙◌, List, get_or, set, replicate, get_or-set_same, get_or-set_other}
+use Rattle.std.proofs.Math.Nat.{add-mod_right}
 use Rattle.subset.specs.Words.{epoch_length}
 use Rattle.state.specs.State.{epoch_at, input_at, current_epoch, epoch_words, without_epoch}
 use Rattle.work.specs.HoneyBadger.{update_epoch}

@@ -1,10 +1,5 @@
 -- ONE WALK of a run beside the state, for every property of runs that has the rules. Assumes nothing.
-use Prim.Native.Nat.{ℕ, zero, suc, ◌+◌, ◌*◌}
-use mathlib.Core.List.{List}
-use mathlib.Core.Bool.{Bool, true, false}
-use Rattle.std.specs.Prelude.{None}
-use native.Mathlib.Omega.{arith}
-use lib.Dec.{eqb}
+use Rattle.std.proofs.Common.{ℕ, zero, suc, ◌+◌, ◌*◌, List, Bool, true, false, None, arith, eqb}
 use Rattle.steps.specs.Answers.{Tape}
 use Rattle.steps.specs.Runs.{going, Run, ends, inside}
 use Rattle.steps.proofs.Logic.{hand, nothing, Terms, Logic, here, there, test, fail, move, next, Stateless, free, elsewhere}

@@ -1,9 +1,6 @@
 -- `table_ok` meets its contract. The invariant: some fuel that is enough is left, and what the definition says of the rest of the
 -- chain is what it says of the whole. The measure is what is left of the words past the index. Assumes nothing.
-use mathlib.Core.Path.{refl, sym, ◌∙◌}
-use Prim.Native.Nat.{◌-◌}
-use native.Mathlib.Omega.{arith}
-use lib.ListN.{length}
+use Rattle.std.proofs.Common.{refl, sym, ◌∙◌, ◌-◌, arith, length}
 use Rattle.steps.specs.Table.{table_ok}
 use Rattle.steps.proofs.TableCheck.{chain_end, chain_step}
 use Rattle.answers.proofs.table_ok.Goals as goal

@@ -1,5 +1,5 @@
 -- `combine` meets its contract, by what the answer told. Assumes nothing.
-use borrow.Author.Tests.{eq-eqb, ne_eqb}
+use Rattle.std.proofs.Common.{eq-eqb, ne_eqb}
 use Rattle.decryption.specs.Decrypt.{combine}
 use Rattle.steps.proofs.LentRuns.{heard_ok, heard_err, stops}
 use Rattle.decryption.proofs.combine.Goals as goal

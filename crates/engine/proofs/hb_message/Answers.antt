@@ -1,5 +1,5 @@
 -- `hb_message` meets its contract: turned down by its checks, or run, with scratch cleared afterwards. Assumes nothing.
-use mathlib.Core.Path.{refl, ◌∙◌}
+use Rattle.std.proofs.Common.{refl, ◌∙◌}
 use Rattle.calls.specs.Calls.{zeroed}
 use Rattle.calls.proofs.ChecksApart.{turned_past, message_callable, message_checked, ends_refused, ends_run, same_content}
 use Rattle.engine.proofs.QueryCode.{call_replied}

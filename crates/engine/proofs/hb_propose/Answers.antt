@@ -1,5 +1,5 @@
 -- `hb_propose` meets its contract: turned down by its checks, or run, with scratch cleared afterwards. Assumes nothing.
-use mathlib.Core.Path.{refl, ◌∙◌}
+use Rattle.std.proofs.Common.{refl, ◌∙◌}
 use Rattle.calls.specs.Calls.{zeroed}
 use Rattle.calls.proofs.ChecksApart.{turned_past, propose_checked, ends_refused, ends_run}
 use Rattle.engine.proofs.QueryCode.{call_replied}

@@ -1,5 +1,5 @@
 -- `skip` meets its contract. Assumes nothing.
-use mathlib.Core.Path.{sym, ◌∙◌}
+use Rattle.std.proofs.Common.{sym, ◌∙◌}
 use Rattle.state.proofs.RangeCode.{ok_words}
 use Rattle.engine.proofs.skip.Goals as goal
 

@@ -1,7 +1,5 @@
 -- `finish` meets its contract: 10, or what the second run wrote, and the commit. Assumes nothing.
-use mathlib.Core.Path.{refl, ap, ◌∙◌}
-use native.Mathlib.Omega.{arith}
-use borrow.Author.Rules.{rules}
+use Rattle.std.proofs.Common.{refl, ap, ◌∙◌, arith, rules}
 use Rattle.work.specs.Shape.{count_more}
 use Rattle.calls.proofs.CallCode.{after_same, done_written}
 use Rattle.calls.proofs.call.finish.Goals as goal

@@ -1,6 +1,5 @@
 -- `run_twice` meets its contract, from what the first run left. Assumes nothing.
-use mathlib.Core.Path.{sym, ap, ◌∙◌}
-use borrow.Author.Rules.{rules}
+use Rattle.std.proofs.Common.{sym, ap, ◌∙◌, rules}
 use Rattle.steps.specs.Kinds.{verdict_of}
 use Rattle.calls.proofs.CallCode.{failed_read, done_empty, done_read}
 use Rattle.calls.proofs.call.run_twice.Goals as goal

@@ -1,7 +1,5 @@
 -- `settle` meets its contract: a first part of scratch is written, which is zeroed. Assumes nothing.
-use mathlib.Core.Path.{refl, sym, ◌∙◌}
-use native.Mathlib.Omega.{arith}
-use lib.Seq.{length-take-le}
+use Rattle.std.proofs.Common.{refl, sym, ◌∙◌, arith, length-take-le}
 use Rattle.calls.specs.Calls.{zeroed}
 use Rattle.calls.specs.Refusals.{call_reply}
 use Rattle.calls.proofs.CallCode.{epoch_fits, zeroed_part, after_same}

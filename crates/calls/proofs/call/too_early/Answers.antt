@@ -1,7 +1,5 @@
 -- `too_early` meets its contract: 9, 10 and the step of one fault, counted. Assumes nothing.
-use mathlib.Core.Path.{refl, ◌∙◌}
-use native.Mathlib.Omega.{arith}
-use borrow.Author.Rules.{rules}
+use Rattle.std.proofs.Common.{refl, ◌∙◌, arith, rules}
 use Rattle.steps.specs.Answers.{tape_of}
 use Rattle.steps.specs.Steps.{fault}
 use Rattle.calls.proofs.CallCode.{end_is, after_same, one_fault, early_counted, early_done}

@@ -1,5 +1,5 @@
 -- `propose` meets its contract: an observer's call, and a validator's. Assumes nothing.
-use mathlib.Core.Path.{sym, ap, ◌∙◌}
+use Rattle.std.proofs.Common.{sym, ap, ◌∙◌}
 use Rattle.network.specs.Network.{is_validator}
 use Rattle.steps.specs.Answers.{tape_of}
 use Rattle.calls.specs.Calls.{zeroed}

@@ -1,6 +1,6 @@
 -- `start_decryption` and `try_output` meet their contracts, case by case. Each call of one by the other sets a flag that was not set.
 -- Assumes nothing.
-use mathlib.Core.Path.{sym, ap, ◌∙◌}
+use Rattle.std.proofs.Common.{sym, ap, ◌∙◌}
 use Rattle.steps.specs.Runs.{leaves}
 use Rattle.steps.specs.Steps.{put_all}
 use Rattle.steps.proofs.LentRuns.{onward_ok, onward_err, stops}

@@ -1,5 +1,5 @@
 -- `handle_message` meets its contract, case by case. Assumes nothing.
-use mathlib.Core.Path.{sym, ap, ◌∙◌}
+use Rattle.std.proofs.Common.{sym, ap, ◌∙◌}
 use Rattle.steps.specs.Runs.{leaves}
 use Rattle.steps.specs.Steps.{put_all}
 use Rattle.steps.proofs.LentRuns.{read_ok_left, read_err_left, stops}

@@ -1,6 +1,5 @@
 -- `is_share_valid` meets its contract: no ciphertext yet, or by the answer. Assumes nothing.
-use mathlib.Core.Path.{refl}
-use borrow.Author.Tests.{eq-eqb, ne_eqb}
+use Rattle.std.proofs.Common.{refl, eq-eqb, ne_eqb}
 use Rattle.decryption.specs.Decrypt.{is_share_valid}
 use Rattle.steps.proofs.LentRuns.{heard_ok, heard_err, stops}
 use Rattle.decryption.proofs.ThresholdDecrypt.is_share_valid.Goals as goal

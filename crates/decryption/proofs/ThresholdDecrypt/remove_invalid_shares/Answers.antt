@@ -1,7 +1,7 @@
 -- `remove_invalid_shares` meets its contract. The invariant: what checking from here on leaves is what checking from the start leaves.
 -- Assumes nothing.
 use Rattle.steps.proofs.LentRuns.{stops}
-use mathlib.Core.Path.{sym, ap, ◌∙◌}
+use Rattle.std.proofs.Common.{sym, ap, ◌∙◌}
 use Rattle.steps.specs.Runs.{leaves}
 use Rattle.steps.specs.Steps.{put_all}
 use Rattle.decryption.proofs.ShareCode.{remove_goes, remove_stops, remove_done}

@@ -1,5 +1,4 @@
-use Prim.Native.Nat.{◌-◌}
-use mathlib.Core.Path.{◌≡◌}
+use Rattle.std.proofs.Common.{◌-◌, ◌≡◌}
 use Rattle.steps.specs.Written.{out_of, same_table}
 use Rattle.steps.specs.Runs.{leaves}
 use Rattle.decryption.specs.Decrypt.{remove_from}

@@ -1,5 +1,5 @@
 -- `set_ciphertext` meets its contract, case by case. Assumes nothing.
-use borrow.Author.Tests.{eq-eqb, ne_eqb}
+use Rattle.std.proofs.Common.{eq-eqb, ne_eqb}
 use Rattle.decryption.specs.Decrypt.{set_ciphertext}
 use Rattle.steps.proofs.LentRuns.{heard_ok, heard_err, stops}
 use Rattle.decryption.proofs.ThresholdDecrypt.set_ciphertext.Goals as goal

@@ -1,5 +1,5 @@
 -- `store_share` meets its contract: the share is the first of its sender, or another. Assumes nothing.
-use borrow.Author.Tests.{eq-eqb, ne_eqb}
+use Rattle.std.proofs.Common.{eq-eqb, ne_eqb}
 use Rattle.steps.specs.Steps.{put_all}
 use Rattle.decryption.specs.Decrypt.{store_share}
 use Rattle.decryption.proofs.ThresholdDecrypt.store_share.Goals as goal

@@ -1,5 +1,5 @@
 -- What `call_subset` calls gets what it requires: the list of contributions stays one. Assumes nothing.
-use mathlib.Core.Path.{◌∙◌}
+use Rattle.std.proofs.Common.{◌∙◌}
 use Rattle.epoch.proofs.CallCode.{up_went, kept_input}
 use Rattle.epoch.proofs.epoch_state.call_subset.Goals as goal
 

@@ -1,7 +1,6 @@
 -- `first_contributions` meets its contract. The invariant: cutting from here on leaves what cutting from the start leaves; the list stays one.
 -- Assumes nothing.
-use mathlib.Core.Path.{sym, ◌∙◌}
-use native.Mathlib.Omega.{arith}
+use Rattle.std.proofs.Common.{sym, ◌∙◌, arith}
 use Rattle.subset.specs.Words.{count_of}
 use Rattle.epoch.proofs.ContributionCode.{listed_cut, cut_turn}
 use Rattle.epoch.proofs.epoch_state.first_contributions.Goals as goal

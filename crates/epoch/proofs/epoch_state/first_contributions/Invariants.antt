@@ -1,6 +1,4 @@
-use Prim.Native.Nat.{◌-◌}
-use mathlib.Core.Path.{◌≡◌}
-use lib.ListN.{length}
+use Rattle.std.proofs.Common.{◌-◌, ◌≡◌, length}
 use Rattle.subset.specs.Words.{drop_from}
 use Rattle.epochwords.specs.Shape.{Listed}
 use Rattle.epoch.proofs.epoch_state.first_contributions.Given as goal

@@ -1,5 +1,5 @@
 -- What `hand_up` calls gets what it requires: the list of contributions stays one. Assumes nothing.
-use mathlib.Core.Path.{◌∙◌}
+use Rattle.std.proofs.Common.{◌∙◌}
 use Rattle.epoch.proofs.CallCode.{kept_input}
 use Rattle.epoch.proofs.epoch_state.hand_up.Goals as goal
 

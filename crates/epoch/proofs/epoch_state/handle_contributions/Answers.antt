@@ -1,5 +1,5 @@
 -- What `handle_contributions` calls gets what it requires: the list of contributions stays one. Assumes nothing.
-use mathlib.Core.Path.{◌∙◌}
+use Rattle.std.proofs.Common.{◌∙◌}
 use Rattle.epoch.proofs.ContributionCode.{kept_from}
 use Rattle.epoch.proofs.epoch_state.handle_contributions.Goals as goal
 

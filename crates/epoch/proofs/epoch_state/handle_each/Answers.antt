@@ -1,7 +1,7 @@
 -- `handle_each` meets its contract. The invariant: what handling from here on leaves is what handling from the start leaves; the list stays.
 -- Assumes nothing.
 use Rattle.steps.proofs.LentRuns.{stops}
-use mathlib.Core.Path.{◌∙◌}
+use Rattle.std.proofs.Common.{◌∙◌}
 use Rattle.epoch.proofs.ContributionCode.{kept_contribution, each_goes, each_stops}
 use Rattle.epoch.proofs.epoch_state.handle_each.Goals as goal
 

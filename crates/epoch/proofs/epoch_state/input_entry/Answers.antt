@@ -1,5 +1,5 @@
 -- `input_entry` meets its contract where the entry is called. Assumes nothing.
-use mathlib.Core.Path.{◌∙◌}
+use Rattle.std.proofs.Common.{◌∙◌}
 use Rattle.epoch.proofs.EntryCode.{entry_called}
 use Rattle.epoch.proofs.epoch_state.input_entry.Goals as goal
 

@@ -1,6 +1,5 @@
 -- `open_entry` meets its contract, by the entry. Assumes nothing.
-use mathlib.Core.Path.{◌∙◌, ap, sym}
-use Rattle.std.specs.Prelude.{Some}
+use Rattle.std.proofs.Common.{◌∙◌, ap, sym, Some}
 use Rattle.epochwords.specs.Shape.{decryption_of}
 use Rattle.epochwords.proofs.EntryCode.{open_missing, open_ongoing, open_complete}
 use Rattle.epochwords.proofs.entry.open_entry.Goals as goal

@@ -1,5 +1,5 @@
 -- `store_entry` meets its contract, word by word. Assumes nothing.
-use mathlib.Core.Path.{◌∙◌}
+use Rattle.std.proofs.Common.{◌∙◌}
 use Rattle.epochwords.specs.Words.{store_entry}
 use Rattle.epochwords.proofs.EntryCode.{flag_is}
 use Rattle.epochwords.proofs.entry.store_entry.Goals as goal

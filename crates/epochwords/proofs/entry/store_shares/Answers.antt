@@ -1,5 +1,5 @@
 -- `store_shares` meets its contract: the shares are one part of the words. Assumes nothing.
-use native.Mathlib.Omega.{arith}
+use Rattle.std.proofs.Common.{arith}
 use Rattle.epochwords.proofs.EntryCode.{stored}
 use Rattle.epochwords.proofs.entry.store_shares.Goals as goal
 

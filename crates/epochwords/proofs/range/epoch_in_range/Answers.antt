@@ -1,6 +1,5 @@
 -- `epoch_in_range` meets its contract. The invariant: what was found so far, and the small words of the records from here on. Assumes nothing.
-use mathlib.Core.Path.{◌∙◌}
-use native.Mathlib.Omega.{arith}
+use Rattle.std.proofs.Common.{◌∙◌, arith}
 use Rattle.std.proofs.lemmas.Nat.{one_shl}
 use Rattle.epochwords.proofs.RangeCode.{epoch_code, epoch_vacant, smalls_turn, smalls_over}
 use Rattle.epochwords.proofs.range.epoch_in_range.Goals as goal

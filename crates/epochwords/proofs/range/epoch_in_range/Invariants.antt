@@ -1,6 +1,4 @@
-use Prim.Native.Nat.{◌-◌}
-use mathlib.Core.Path.{◌≡◌}
-use mathlib.Core.Bool.{◌&&◌}
+use Rattle.std.proofs.Common.{◌-◌, ◌≡◌, ◌&&◌}
 use Rattle.epochwords.proofs.RangeCode.{smalls_in_range}
 use Rattle.epochwords.proofs.range.epoch_in_range.Given as goal
 

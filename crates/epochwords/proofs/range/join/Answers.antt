@@ -1,6 +1,5 @@
 -- `join` meets its contract. The invariant: what was joined so far, and the words from here on. Assumes nothing.
-use mathlib.Core.Path.{◌∙◌}
-use lib.ListN.{length}
+use Rattle.std.proofs.Common.{◌∙◌, length}
 use Rattle.epochwords.proofs.RangeCode.{join_turn, join_over}
 use Rattle.epochwords.proofs.range.join.Goals as goal
 

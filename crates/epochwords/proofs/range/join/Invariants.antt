@@ -1,8 +1,4 @@
-use Prim.Native.Nat.{ℕ, ◌-◌, ◌^◌}
-use mathlib.Core.Path.{◌≡◌}
-use mathlib.Core.Bool.{◌&&◌}
-use lib.ListN.{length}
-use lib.Dec.{ltb}
+use Rattle.std.proofs.Common.{ℕ, ◌-◌, ◌^◌, ◌≡◌, ◌&&◌, length, ltb}
 use Rattle.epochwords.specs.Words.{all_from}
 use Rattle.epochwords.proofs.range.join.Given as goal
 

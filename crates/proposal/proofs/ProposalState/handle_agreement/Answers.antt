@@ -1,5 +1,5 @@
 -- `handle_agreement` meets its contract: the proposal does not ask, or by what the instance has told. Assumes nothing.
-use mathlib.Core.Path.{refl, sym, ◌∙◌}
+use Rattle.std.proofs.Common.{refl, sym, ◌∙◌}
 use Rattle.steps.specs.Steps.{put_all}
 use Rattle.steps.proofs.LentRuns.{onward_ok, onward_err}
 use Rattle.proposal.specs.Proposal.{handle_agreement, answer_agreement}

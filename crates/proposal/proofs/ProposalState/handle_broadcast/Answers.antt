@@ -1,5 +1,5 @@
 -- `handle_broadcast` meets its contract: the proposal does not ask, or by what the instance has told. Assumes nothing.
-use mathlib.Core.Path.{sym, ◌∙◌}
+use Rattle.std.proofs.Common.{sym, ◌∙◌}
 use Rattle.steps.proofs.LentRuns.{onward_ok, onward_err}
 use Rattle.proposal.specs.Proposal.{handle_broadcast, answer_broadcast}
 use Rattle.proposal.proofs.ProposalState.handle_broadcast.Goals as goal

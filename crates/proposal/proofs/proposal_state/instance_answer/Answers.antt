@@ -1,5 +1,5 @@
 -- `instance_answer` meets its contract, by the answer. Assumes nothing.
-use borrow.Author.Tests.{eq-eqb, ne_eqb}
+use Rattle.std.proofs.Common.{eq-eqb, ne_eqb}
 use Rattle.steps.specs.Steps.{put_all}
 use Rattle.steps.proofs.LentRuns.{heard_ok_left, heard_err_left, stops}
 use Rattle.steps.proofs.RunsInParts.{leaves_inside}

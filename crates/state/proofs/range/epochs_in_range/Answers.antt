@@ -1,5 +1,5 @@
 -- `epochs_in_range` meets its contract. The invariant: what was found so far, and the epochs from here on. Assumes nothing.
-use mathlib.Core.Path.{◌∙◌}
+use Rattle.std.proofs.Common.{◌∙◌}
 use Rattle.state.proofs.RangeCode.{epochs_turn, epochs_over}
 use Rattle.state.proofs.range.epochs_in_range.Goals as goal
 

@@ -1,6 +1,4 @@
-use Prim.Native.Nat.{◌+◌, ◌-◌, ◌*◌}
-use mathlib.Core.Path.{◌≡◌}
-use mathlib.Core.Bool.{◌&&◌}
+use Rattle.std.proofs.Common.{◌+◌, ◌-◌, ◌*◌, ◌≡◌, ◌&&◌}
 use Rattle.state.specs.State.{ahead, nodes, epochs_at, epochs_in_range}
 use Rattle.state.proofs.range.epochs_in_range.Given as goal
 

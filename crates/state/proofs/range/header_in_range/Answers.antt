@@ -1,6 +1,5 @@
 -- `header_in_range` meets its contract: the definition's tests in its order, after those that keep sums small. Assumes nothing.
-use Rattle.std.proofs.Common.{rules}
-use mathlib.Core.Path.{◌≡◌}
+use Rattle.std.proofs.Common.{rules, ◌≡◌}
 use Rattle.steps.specs.Table.{within}
 use Rattle.state.specs.State.{header_tests, nodes}
 use Rattle.state.proofs.RangeCode.{header_large, in_order, vacant_zero}

@@ -1,6 +1,5 @@
 -- `state_ok` meets its contract, test by test. Assumes nothing.
-use mathlib.Core.Path.{sym, ◌∙◌}
-use native.Mathlib.Omega.{arith}
+use Rattle.std.proofs.Common.{sym, ◌∙◌, arith}
 use Rattle.state.proofs.RangeCode.{header_on_sheet, header_words, ok_short, ok_header, ok_length, ok_epochs}
 use Rattle.state.proofs.range.state_ok.Goals as goal
 

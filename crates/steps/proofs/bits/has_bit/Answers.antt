@@ -1,5 +1,5 @@
 -- `has_bit` meets its contract: a shift is a quotient. Assumes nothing.
-use mathlib.Core.Path.{refl}
+use Rattle.std.proofs.Common.{refl}
 use Rattle.steps.specs.Bits.{has_bit}
 use Rattle.steps.proofs.bits.has_bit.Goals as goal
 

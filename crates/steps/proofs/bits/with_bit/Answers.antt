@@ -1,6 +1,5 @@
 -- `with_bit` meets its contract: a bit that is not set can be added. Assumes nothing.
-use mathlib.Core.Path.{sym, ◌∙◌}
-use borrow.Author.Rules.{rules}
+use Rattle.std.proofs.Common.{sym, ◌∙◌, rules}
 use Rattle.steps.specs.Bits.{with_bit}
 use Rattle.steps.proofs.BitLaws.{with_below, with_added}
 use Rattle.steps.proofs.bits.with_bit.Goals as goal

@@ -1,6 +1,5 @@
 -- `record_at` meets its contract: no record at 0 or past the table, else the record. Assumes nothing.
-use mathlib.Core.Path.{sym}
-use native.Mathlib.Omega.{arith}
+use Rattle.std.proofs.Common.{sym, arith}
 use Rattle.steps.specs.Answers.{link}
 use Rattle.steps.proofs.ChainLaws.{on_record_lem, off_at_zero, off_past}
 use Rattle.steps.proofs.ReaderCode.{first_off, first_on}

@@ -1,6 +1,5 @@
 -- `answer_at` meets its contract: by its kind, a proposal that asks is stored with its step. Assumes nothing.
-use mathlib.Core.Path.{◌≡◌, sym, ◌∙◌}
-use borrow.Author.Rules.{rules}
+use Rattle.std.proofs.Common.{◌≡◌, sym, ◌∙◌, rules}
 use Rattle.steps.specs.declared.reader.Content.TheVariants.{Broadcast, Agreement}
 use Rattle.subset.specs.Outcomes.{content_of}
 use Rattle.subset.proofs.SubsetCode.{broadcast_left, agreement_left}

@@ -1,5 +1,5 @@
 -- `propose` meets its contract: an observer, or the own proposal is broadcast. Assumes nothing.
-use mathlib.Core.Path.{sym, ◌∙◌}
+use Rattle.std.proofs.Common.{sym, ◌∙◌}
 use Rattle.steps.proofs.LentRuns.{onward_ok, onward_err, stops}
 use Rattle.subset.specs.Subset.{propose}
 use Rattle.subset.proofs.subset.propose.Goals as goal

@@ -1,5 +1,5 @@
 -- `try_output` meets its contract: too early or decided, or by the votes and whether all are complete. Assumes nothing.
-use mathlib.Core.Path.{sym, ◌∙◌}
+use Rattle.std.proofs.Common.{sym, ◌∙◌}
 use Rattle.steps.specs.Steps.{put_all}
 use Rattle.steps.proofs.LentRuns.{onward_ok, onward_err, stops}
 use Rattle.subset.proofs.SubsetCode.{votes_left}

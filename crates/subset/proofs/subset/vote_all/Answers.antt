@@ -1,6 +1,5 @@
 -- `vote_all` meets its contract. The invariant: what the votes from here on leave is what all votes leave. Assumes nothing.
-use mathlib.Core.Path.{refl}
-use borrow.Author.Rules.{rules}
+use Rattle.std.proofs.Common.{refl, rules}
 use Rattle.steps.specs.Steps.{put_all}
 use Rattle.steps.proofs.LentRuns.{onward_ok, onward_err, stops}
 use Rattle.subset.proofs.SubsetCode.{vote_turn, vote_done}

@@ -1,6 +1,4 @@
-use Prim.Native.Nat.{◌-◌}
-use mathlib.Core.Path.{◌≡◌}
-use lib.ListN.{length}
+use Rattle.std.proofs.Common.{◌-◌, ◌≡◌, length}
 use Rattle.steps.specs.Kinds.{failure_number}
 use Rattle.steps.specs.Written.{out_of, same_table}
 use Rattle.steps.specs.Runs.{leaves}

@@ -1,8 +1,5 @@
 -- `proposals_in` meets its contract. The invariant: the bits so far and those from here on make up the word. Assumes nothing.
-use Prim.Native.Nat.{ℕ}
-use mathlib.Core.Bool.{Bool}
-use mathlib.Core.List.{List}
-use native.Mathlib.Omega.{arith}
+use Rattle.std.proofs.Common.{ℕ, Bool, List, arith}
 use Rattle.subset.specs.Words.{proposal_tag}
 use Rattle.subset.specs.Bits.{tag_in, proposals_in}
 use Rattle.subset.proofs.WordsCode.{bits_turn, bits_done, bits_small, bit_of}

@@ -1,5 +1,4 @@
-use Prim.Native.Nat.{ℕ, ◌+◌, ◌-◌}
-use mathlib.Core.Path.{◌≡◌}
+use Rattle.std.proofs.Common.{ℕ, ◌+◌, ◌-◌, ◌≡◌}
 use Rattle.steps.specs.Bits.{bits_from}
 use Rattle.subset.specs.Words.{proposal_tag}
 use Rattle.subset.specs.Bits.{tag_in}

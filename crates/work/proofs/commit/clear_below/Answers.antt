@@ -1,7 +1,5 @@
 -- `clear_below` meets its contract. The invariant: clearing from here on is clearing from the start. Assumes nothing.
-use Prim.Native.Nat.{◌+◌, ◌-◌}
-use mathlib.Core.Path.{ap, ◌∙◌}
-use native.Mathlib.Omega.{arith}
+use Rattle.std.proofs.Common.{◌+◌, ◌-◌, ap, ◌∙◌, arith}
 use Rattle.state.specs.State.{ahead, current_epoch}
 use Rattle.state.proofs.WordsCode.{without_kept}
 use Rattle.work.specs.HoneyBadger.{clear_below}

@@ -1,5 +1,4 @@
-use Prim.Native.Nat.{◌+◌, ◌-◌}
-use mathlib.Core.Path.{◌≡◌}
+use Rattle.std.proofs.Common.{◌+◌, ◌-◌, ◌≡◌}
 use Rattle.state.specs.State.{ahead, current_epoch}
 use Rattle.state.specs.Shape.{StateWords}
 use Rattle.work.specs.HoneyBadger.{clear_below}

@@ -1,5 +1,5 @@
 -- `commit` meets its contract: the epoch is stored in what the commit writes on, then skipped from. Assumes nothing.
-use mathlib.Core.Path.{sym, ap, ◌∙◌}
+use Rattle.std.proofs.Common.{sym, ap, ◌∙◌}
 use Rattle.subset.specs.Words.{epoch_length}
 use Rattle.state.specs.State.{with_epoch}
 use Rattle.state.proofs.WordsCode.{with_kept}

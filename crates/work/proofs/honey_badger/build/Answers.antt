@@ -1,6 +1,5 @@
 -- `build` meets its contract, case by case. Assumes nothing.
-use mathlib.Core.Path.{refl}
-use borrow.Author.Tests.{eq-eqb, ne_eqb}
+use Rattle.std.proofs.Common.{refl, eq-eqb, ne_eqb}
 use Rattle.steps.proofs.LentRuns.{heard_ok, heard_err, stops}
 use Rattle.work.specs.Work.{built}
 use Rattle.work.proofs.honey_badger.build.Goals as goal

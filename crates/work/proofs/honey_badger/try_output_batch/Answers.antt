@@ -1,5 +1,5 @@
 -- `try_output_batch` meets its contract, by what its two callees leave. Assumes nothing.
-use mathlib.Core.Path.{refl, sym, ◌∙◌}
+use Rattle.std.proofs.Common.{refl, sym, ◌∙◌}
 use Rattle.steps.specs.Steps.{put_all}
 use Rattle.steps.proofs.LentRuns.{onward_ok, onward_err, stops}
 use Rattle.work.specs.Shape.{try_output_batch}

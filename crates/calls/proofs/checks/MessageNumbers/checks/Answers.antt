@@ -1,6 +1,6 @@
 -- `MessageNumbers::checks` meets its contract, test by test. Assumes nothing.
 use Rattle.steps.proofs.LentRuns.{stops}
-use mathlib.Core.Path.{ap, ◌∙◌}
+use Rattle.std.proofs.Common.{ap, ◌∙◌}
 use Rattle.calls.specs.Refusals.{reply_of}
 use Rattle.calls.specs.declared.refusal.Refusal.TheVariants.{UnknownSender, MessageMalformed}
 use Rattle.calls.proofs.ChecksApart.{then_passed, then_refused, message_sender, message_proposer, message_read}

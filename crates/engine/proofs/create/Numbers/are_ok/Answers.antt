@@ -1,6 +1,5 @@
 -- `Numbers::are_ok` meets its contract: the definition's tests in its order, after the one that keeps the product small. Assumes nothing.
-use mathlib.Core.Path.{◌≡◌, ◌∙◌}
-use Rattle.std.proofs.Common.{rules}
+use Rattle.std.proofs.Common.{◌≡◌, ◌∙◌, rules}
 use Rattle.steps.specs.Table.{within}
 use Rattle.engine.specs.Shape.{numbers_of}
 use Rattle.engine.proofs.CreateCode.{numbers_off, numbers_joined}

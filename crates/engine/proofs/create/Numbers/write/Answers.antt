@@ -1,5 +1,5 @@
 -- `Numbers::write` meets its contract: the header word by word into zeros. Assumes nothing.
-use mathlib.Core.Path.{◌∙◌}
+use Rattle.std.proofs.Common.{◌∙◌}
 use Rattle.engine.specs.Shape.{numbers_of}
 use Rattle.engine.proofs.CreateCode.{header_written}
 use Rattle.engine.proofs.create.Numbers.write.Goals as goal

@@ -1,5 +1,4 @@
-use Prim.Native.Nat.{◌-◌}
-use mathlib.Core.Path.{◌≡◌}
+use Rattle.std.proofs.Common.{◌-◌, ◌≡◌}
 use Rattle.epochwords.specs.Batch.{decrypted_from}
 use Rattle.epochwords.proofs.batch.EpochRecords.is_ready.Given as goal
 

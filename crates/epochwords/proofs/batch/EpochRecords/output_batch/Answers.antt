@@ -1,5 +1,5 @@
 -- `output_batch` meets its contract: the readable ones are read, then the batch is written. Assumes nothing.
-use mathlib.Core.Path.{sym, ap}
+use Rattle.std.proofs.Common.{sym, ap}
 use Rattle.steps.specs.Steps.{put_all}
 use Rattle.steps.proofs.LentRuns.{onward_ok, onward_err, stops}
 use Rattle.epochwords.specs.Batch.{output_batch_in}

@@ -1,5 +1,5 @@
 -- `read_all` meets its contract. The invariant: what reading from here on leaves is what reading from the start leaves. Assumes nothing.
-use mathlib.Core.Path.{refl, sym, ap, ◌∙◌}
+use Rattle.std.proofs.Common.{refl, sym, ap, ◌∙◌}
 use Rattle.steps.specs.Runs.{leaves}
 use Rattle.steps.proofs.LentRuns.{onward_ok, onward_err, stops}
 use Rattle.epochwords.proofs.BatchCode.{reads_turn}

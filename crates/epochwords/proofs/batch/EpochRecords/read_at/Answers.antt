@@ -1,6 +1,5 @@
 -- `read_at` meets its contract, case by case. Assumes nothing.
-use mathlib.Core.Path.{refl, sym, ◌∙◌}
-use borrow.Author.Tests.{ne_eqb}
+use Rattle.std.proofs.Common.{refl, sym, ◌∙◌, ne_eqb}
 use Rattle.steps.specs.Steps.{put_all}
 use Rattle.steps.proofs.LentRuns.{heard_ok_left, heard_err_left, stops}
 use Rattle.epochwords.specs.Batch.{read_at}

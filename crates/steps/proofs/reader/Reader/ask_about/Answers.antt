@@ -1,5 +1,5 @@
 -- `ask_about` meets its contract, by what `peek` found. Assumes nothing.
-use mathlib.Core.Path.{sym, ◌∙◌}
+use Rattle.std.proofs.Common.{sym, ◌∙◌}
 use Rattle.steps.specs.Answers.{ask_about}
 use Rattle.steps.proofs.ReaderCode.{asked_none, asked_taken}
 use Rattle.steps.proofs.reader.Reader.ask_about.Goals as goal

@@ -1,6 +1,5 @@
 -- `is_end` meets its contract: the chain has ended where it has no first record. Assumes nothing.
-use mathlib.Core.Path.{sym, ap, ◌∙◌}
-use Rattle.std.specs.Prelude.{is_some}
+use Rattle.std.proofs.Common.{sym, ap, ◌∙◌, is_some}
 use Rattle.steps.proofs.ReaderCode.{ended}
 use Rattle.steps.proofs.reader.Reader.is_end.Goals as goal
 

@@ -1,5 +1,5 @@
 -- `pass` meets its contract: behind a record that stands at a place the chain goes on at its next. Assumes nothing.
-use mathlib.Core.Path.{ap, ◌∙◌}
+use Rattle.std.proofs.Common.{ap, ◌∙◌}
 use Rattle.steps.specs.Answers.{Tape, tape, first_record}
 use Rattle.steps.proofs.ReaderCode.{rest_of_chain}
 use Rattle.steps.proofs.reader.Reader.pass.Goals as goal

@@ -1,6 +1,6 @@
 -- `read_parts` meets its contract. The invariant: what the parts from here on leave is what the parts from the start leave. The measure
 -- is how many records are left. Assumes nothing.
-use mathlib.Core.Path.{sym, ◌∙◌}
+use Rattle.std.proofs.Common.{sym, ◌∙◌}
 use Rattle.steps.proofs.ReaderCode.{first_shorter, last_counts, parts_ended, parts_stopped, parts_turned}
 use Rattle.steps.proofs.reader.Reader.read_parts.Goals as goal
 

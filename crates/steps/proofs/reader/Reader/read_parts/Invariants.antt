@@ -1,5 +1,4 @@
-use mathlib.Core.Path.{◌≡◌}
-use lib.ListN.{length}
+use Rattle.std.proofs.Common.{◌≡◌, length}
 use Rattle.steps.specs.Written.{out_of, same_table}
 use Rattle.steps.specs.Runs.{leaves}
 use Rattle.steps.proofs.ReaderCode.{parts_of}

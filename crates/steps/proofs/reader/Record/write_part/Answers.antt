@@ -1,5 +1,5 @@
 -- `write_part` meets its contract: a message, a fault, or no entry. Assumes nothing.
-use mathlib.Core.Path.{◌∙◌}
+use Rattle.std.proofs.Common.{◌∙◌}
 use Rattle.steps.proofs.Parts.{message_part_lem, fault_part_lem, other_part}
 use Rattle.steps.proofs.reader.Record.write_part.Goals as goal
 

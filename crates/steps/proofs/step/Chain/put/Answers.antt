@@ -1,7 +1,6 @@
 -- `put` meets its contract: past the limit nothing moves, past the table only the place does, and else the record is set. Assumes nothing.
-use native.Mathlib.Omega.{arith}
-use lib.ListN.{length-set}
-use borrow.Author.Tests.{le-ltb, lt-ltb, le-leb, lt-leb}
+use Rattle.std.proofs.Common.{arith, length-set, le-ltb, lt-ltb, le-leb}
+use Rattle.std.proofs.lemmas.Bool.{lt-leb}
 use Rattle.steps.specs.Steps.{advance, put_at}
 use Rattle.steps.proofs.step.Chain.put.Goals as goal
 

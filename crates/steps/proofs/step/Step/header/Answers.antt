@@ -1,6 +1,5 @@
 -- `header` meets its contract: four words are set. Assumes nothing.
-use native.Mathlib.Omega.{arith}
-use lib.ListN.{length-set}
+use Rattle.std.proofs.Common.{arith, length-set}
 use Rattle.steps.specs.Steps.{put_header}
 use Rattle.steps.proofs.step.Step.header.Goals as goal
 

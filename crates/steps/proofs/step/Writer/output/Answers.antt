@@ -1,5 +1,5 @@
 -- `output` meets its contract: the chain and the words are what `put` left. Assumes nothing.
-use mathlib.Core.Path.{sym}
+use Rattle.std.proofs.Common.{sym}
 use Rattle.steps.proofs.ChainLaws.{output_put}
 use Rattle.steps.proofs.step.Writer.output.Goals as goal
 

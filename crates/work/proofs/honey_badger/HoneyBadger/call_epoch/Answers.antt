@@ -1,5 +1,5 @@
 -- `call_epoch` meets its contract: the epoch is loaded and built, then its call runs. Assumes nothing.
-use mathlib.Core.Path.{refl, ap, ◌∙◌}
+use Rattle.std.proofs.Common.{refl, ap, ◌∙◌}
 use Rattle.steps.proofs.LentRuns.{read_ok_left, read_err_left, stops}
 use Rattle.state.specs.State.{nodes}
 use Rattle.state.proofs.RangeCode.{ok_words}

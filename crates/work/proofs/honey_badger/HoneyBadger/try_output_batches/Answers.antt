@@ -1,5 +1,5 @@
 -- `try_output_batches` meets its contract. The invariant: what the batches from here on leave is what all leave. Assumes nothing.
-use mathlib.Core.Path.{refl, ◌∙◌}
+use Rattle.std.proofs.Common.{refl, ◌∙◌}
 use Rattle.work.proofs.BatchTurnCode.{tried_goes}
 use Rattle.work.proofs.honey_badger.HoneyBadger.try_output_batches.Goals as goal
 
