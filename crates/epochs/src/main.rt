@@ -19,14 +19,14 @@ ghost use Rattle.network.specs.Network.{Network};
 ghost use Rattle.subset.specs.Words.{epoch_length};
 ghost use Rattle.epoch.specs.Outcomes.{Comes};
 ghost use Rattle.epochwords.specs.Shape.{EpochWords};
+ghost use Rattle.epochs.specs.Inputs.{Comes-prop};
 
-use epoch::MessageContent;
 use epoch::epoch_state::{Input, Setting, SubsetInput, handle, new_epoch};
 use epochwords::SubsetHandlingStrategy;
 use epochwords::batch::EpochRecords;
 use epochwords::range::epoch_in_range;
 use epochwords::words::{STATUS_AT, STATUS_VACANT};
-use lines::{OtherLine, first_of, kind_of, line_ends, number, read_numbers, without_cut};
+use lines::{OtherLine, first_of, kind_and_numbers, line_ends, reply_line};
 use network::network_info::NetworkInfo;
 use std::alloc::Global;
 use std::io::{self, BufWriter, Read, Write};
@@ -98,7 +98,7 @@ impl TryFrom<[u64; 6]> for SmallNetwork {
         };
         let setting = Setting {
             net,
-            strategy: strategy_of(strategy),
+            strategy: SubsetHandlingStrategy::from(strategy),
             encrypted: encrypted != 0,
         };
         Ok(SmallNetwork { setting })
@@ -112,16 +112,15 @@ struct SmallStep {
     ghost few: { (counted.messages.at ≤ 21) × (counted.faults.at ≤ 21) × (counted.outputs.at ≤ 21) },
 }
 
-// A propose, where there is no message, or a message of a sender for a proposer.
+// What comes to an epoch, and what the call runs with: at most 7 nodes.
 #[derive(Clone, Copy)]
 struct Call {
     how: Setting,
     epoch: u64,
     current: bool,
-    sender: usize,
-    proposer: usize,
-    message: Option<MessageContent>,
-    ghost nodes: { (sender < how.net.num_nodes) × (proposer < how.net.num_nodes) × (how.net.num_nodes ≤ 7) },
+    input: Input,
+    ghost few: { how.net.num_nodes ≤ 7 },
+    ghost comes: { Comes input how.net.num_nodes } by { Comes-prop input how.net.num_nodes },
 }
 
 // Why a call ends before it is done.
@@ -150,69 +149,44 @@ impl From<End> for u64 {
     }
 }
 
-// No `From`, since neither it nor the strategy is this crate's.
-fn strategy_of(number: u64) -> SubsetHandlingStrategy {
-    match number {
-        0 => SubsetHandlingStrategy::Incremental,
-        _ => SubsetHandlingStrategy::AllAtEnd,
-    }
-}
-
-// Content 0 stands for a propose.
-fn message_of(content: u64, item: u64) -> Option<MessageContent> {
-    match content {
-        0 => None,
-        BROADCAST_CONTENT => Some(MessageContent::Subset(Content::Broadcast)),
-        AGREEMENT_CONTENT => Some(MessageContent::Subset(Content::Agreement)),
-        _ => Some(MessageContent::DecryptionShare(item)),
-    }
-}
-
 impl Call {
     fn propose(network: SmallNetwork, epoch: u64, current: u64) -> Self {
         Call {
             how: network.setting,
             epoch,
             current: current != 0,
-            sender: 0,
-            proposer: 0,
-            message: None,
+            input: Input::Subset(SubsetInput::Proposal),
         }
     }
 
-    // From the numbers of a message line, if its nodes are in the network.
+    // From the numbers of a message line, if its nodes are in the network. Content 0 stands for a propose.
     fn message(network: SmallNetwork, given: [u64; 6]) -> Option<Self> {
         let [epoch, current, sender, content, proposer, item] = given;
         let how = network.setting;
-        let nodes = how.net.num_nodes;
-        if nodes <= sender as usize || nodes <= proposer as usize {
+        let (sender, p) = (sender as usize, proposer as usize);
+        if how.net.num_nodes <= sender || how.net.num_nodes <= p {
             return None;
         }
+        let input = match content {
+            0 => Input::Subset(SubsetInput::Proposal),
+            BROADCAST_CONTENT => Input::Subset(SubsetInput::Message(Content::Broadcast, p)),
+            AGREEMENT_CONTENT => Input::Subset(SubsetInput::Message(Content::Agreement, p)),
+            _ => Input::Share(sender, p, item),
+        };
         Some(Call {
             how,
             epoch,
             current: current != 0,
-            sender: sender as usize,
-            proposer: proposer as usize,
-            message: message_of(content, item),
+            input,
         })
     }
-
-    // What comes to the epoch.
-    fn input(self) -> Input
-        ensures { Comes result self.how.net.num_nodes }
-    {
-        match self.message {
-            None => Input::Subset(SubsetInput::Proposal),
-            Some(MessageContent::Subset(message)) => {
-                Input::Subset(SubsetInput::Message(message, self.proposer))
-            }
-            Some(MessageContent::DecryptionShare(share)) => {
-                Input::Share(self.sender, self.proposer, share)
-            }
-        }
-    }
 }
+
+// `build`, `hand_out`, `epoch_length` and the match on a content have bodies of their own, though `work`, `state` and `calls` have such functions:
+// the program tests `epoch` without the layers above it.
+//
+// `epoch`, `call`, `reader` and `writer` are no struct: it would hold three `&mut`, and each function that is lent it would owe that they are
+// the same ones afterwards.
 
 // Builds the epoch where it is vacant.
 fn build(epoch: &mut [u64], n: usize, reader: &mut Reader) -> Result<(), Stop>
@@ -237,20 +211,20 @@ fn enter(epoch: &mut [u64], call: Call, reader: &mut Reader, writer: &mut Writer
     if !epoch_in_range(epoch, how.strategy, how.net.num_nodes) {
         return Err(End::NotAState);
     }
-    handle(epoch, how, call.input(), reader, writer)?;
+    handle(epoch, how, call.input, reader, writer)?;
     Ok(())
 }
 
 // The batch of the epoch, where it may go out: whether it did.
 fn hand_out(
     epoch: &[u64],
-    n: usize,
     call: Call,
     reader: &mut Reader,
     writer: &mut Writer,
 ) -> Result<bool, Stop>
-    requires { EpochWords n epoch.now }
+    requires { EpochWords call.how.net.num_nodes epoch.now }
 {
+    let n = call.how.net.num_nodes;
     let size = RECORD_FIELDS + n;
     let records = EpochRecords {
         words: epoch,
@@ -268,10 +242,9 @@ fn hand_out(
 fn run(epoch: &mut [u64], call: Call, reader: &mut Reader, writer: &mut Writer) -> Result<bool, End>
     requires { EpochWords call.how.net.num_nodes epoch.old }
 {
-    let n = call.how.net.num_nodes;
-    build(epoch, n, reader)?;
+    build(epoch, call.how.net.num_nodes, reader)?;
     enter(epoch, call, reader, writer)?;
-    Ok(hand_out(epoch, n, call, reader, writer)?)
+    Ok(hand_out(epoch, call, reader, writer)?)
 }
 
 // The words that an epoch of n nodes takes.
@@ -296,15 +269,6 @@ fn run_in(
         return Err(End::Unread);
     }
     ran
-}
-
-// The reply and the words of the step table.
-fn show<W: Write>(out: &mut W, reply: u64, table: &[u64]) -> io::Result<()> {
-    write!(out, "r {reply}")?;
-    for word in table {
-        number(out, *word)?;
-    }
-    line_ends(out)
 }
 
 // Index and word of those that are not 0.
@@ -359,20 +323,21 @@ fn sparse(given: &[u64]) -> [u64; 128] {
     words
 }
 
-// What the lines so far give a call, the network, if it is one, and the epoch's words; and where calls are written.
+// What the lines so far give a call, the network, if it is one, and the epoch's words; and where calls are written. There are 128 words for any
+// network: a line may give words behind the epoch, which are shown again after the call.
 #[derive(Drop)]
-struct Epochs<'a, W> {
+struct Epochs<W> {
     alloc: Global,
-    out: &'a mut W,
+    out: W,
     network: Option<SmallNetwork>,
     words: [u64; 128],
 }
 
-impl<W: Write> Epochs<'_, W> {
+impl<W: Write> Epochs<W> {
     // The second run, which writes what the first has counted.
     fn write(&mut self, call: Call, answers: &[u64], counted: Step) -> io::Result<()> {
         let Some(small) = SmallStep::new(counted) else {
-            return show(self.out, STEP_TABLE_TOO_SHORT, &[]);
+            return reply_line(&mut self.out, STEP_TABLE_TOO_SHORT, &[]);
         };
         let mut table = vec![in self.alloc; 0; small.length()]?;
         let mut words = self.words;
@@ -381,9 +346,13 @@ impl<W: Write> Epochs<'_, W> {
             words: &mut table,
         };
         let ran = run_in(&mut words, call, answers, &mut writer);
-        show(self.out, ran.map_or_else(u64::from, |_| SUCCESS), &table)?;
+        reply_line(
+            &mut self.out,
+            ran.map_or_else(u64::from, |_| SUCCESS),
+            &table,
+        )?;
         if ran != Ok(true) {
-            show_words(self.out, &words)?;
+            show_words(&mut self.out, &words)?;
         }
         Ok(())
     }
@@ -391,10 +360,7 @@ impl<W: Write> Epochs<'_, W> {
     // Both runs of a call. One that fails has no second, and its step is an empty one.
     fn call(&mut self, call: Call, answers: &[u64]) -> io::Result<()> {
         let mut words = self.words;
-        let mut counting = Writer {
-            step: Step::counting(),
-            words: &mut [],
-        };
+        let mut counting = Writer::counting();
         let ran = run_in(&mut words, call, answers, &mut counting);
         let counted = counting.step;
         let Err(end) = ran else {
@@ -402,8 +368,8 @@ impl<W: Write> Epochs<'_, W> {
         };
         let mut table = [0u64; 4];
         Step::counting().header(&mut table, call.epoch);
-        show(self.out, u64::from(end), &table)?;
-        show_words(self.out, &words)
+        reply_line(&mut self.out, u64::from(end), &table)?;
+        show_words(&mut self.out, &words)
     }
 
     fn propose(&mut self, given: &[u64]) -> io::Result<()> {
@@ -429,16 +395,10 @@ impl<W: Write> Epochs<'_, W> {
     }
 
     fn line(&mut self, line: &[u8]) -> io::Result<()> {
-        let Some(kind) = kind_of(line) else {
+        let Some((kind, given)) = kind_and_numbers(self.alloc, line, Kind::Network, MOST_NUMBERS)?
+        else {
             return Ok(());
         };
-        // Only a network takes a number that the end of the input cuts off.
-        let whole = if kind == Kind::Network {
-            line
-        } else {
-            without_cut(line)
-        };
-        let given = read_numbers(self.alloc, whole, MOST_NUMBERS)?;
         match kind {
             Kind::Network => self.network = SmallNetwork::try_from(first_of(&given)).ok(),
             Kind::Words => self.words = sparse(&given),
@@ -449,24 +409,17 @@ impl<W: Write> Epochs<'_, W> {
     }
 }
 
-// The lines of the input, in order.
-fn each_line<W: Write>(alloc: Global, text: &[u8], out: &mut W) -> io::Result<()> {
+fn main(rt: HostRuntime) -> io::Result<()> {
+    let alloc = rt.alloc();
+    let mut text = Vec::new(alloc);
+    rt.reader().take(MOST_BYTES).read_to_end(&mut text)?;
     let mut epochs = Epochs {
         alloc,
-        out,
+        out: BufWriter::new(alloc, io::writer(&rt))?,
         network: None,
         words: [0; 128],
     };
-    for line in text.split_inclusive(|b| *b == b'\n') {
-        epochs.line(line)?;
-    }
-    Ok(())
-}
-
-fn main(rt: HostRuntime) -> io::Result<()> {
-    let mut text = Vec::new(rt.alloc());
-    rt.reader().take(MOST_BYTES).read_to_end(&mut text)?;
-    let mut out = BufWriter::new(rt.alloc(), io::writer(&rt))?;
-    each_line(rt.alloc(), &text, &mut out)?;
-    out.flush()
+    text.split_inclusive(|b| *b == b'\n')
+        .try_for_each(|line| epochs.line(line))?;
+    epochs.out.flush()
 }

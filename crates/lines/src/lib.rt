@@ -1,7 +1,7 @@
 // The text that the test programs read and write: lines of decimal numbers.
 #![tactic(auto)]
 
-ghost use Rattle.std.specs.Prelude.{◌≡◌, ◌+◌, ◌*◌, ◌-◌, ◌<◌, ◌≤◌, ◌^◌, ℕ, length, vec_len, slice_index, slice_get, get_or, false, true, Some, Ok, IsNone, IfSome, IfOk, OnOk, ◌++◌, codes};
+ghost use Rattle.std.specs.Prelude.{◌≡◌, ◌+◌, ◌*◌, ◌-◌, ◌<◌, ◌≤◌, ◌^◌, ℕ, length, vec_len, slice_index, slice_get, get_or, false, true, Some, Ok, IsNone, IfSome, IfOk, OnOk, ◌++◌, codes, flat_map};
 ghost use Rattle.std.specs.Char.{is_ascii_digit};
 ghost use Rattle.std.specs.Fmt.{decimal};
 ghost use Rattle.std.specs.Io.KnownBytes.{Appends};
@@ -28,6 +28,24 @@ pub fn number<W: Write>(out: &mut W, n: u64) -> io::Result<()>
     ensures { OnOk result (Appends (W.contents out.old) (W.contents out.new) (codes " " ++ decimal n)) }
 {
     write!(out, " {n}")
+}
+
+// The rest of a line of numbers.
+pub fn numbers<W: Write>(out: &mut W, words: &[u64]) -> io::Result<()>
+    ensures { OnOk result (Appends (W.contents out.old) (W.contents out.new) (flat_map (λ n. codes " " ++ decimal n) words.now ++ codes "\n")) }
+{
+    for word in words {
+        number(out, *word)?;
+    }
+    line_ends(out)
+}
+
+// The line of a call: its reply and the words of its step table.
+pub fn reply_line<W: Write>(out: &mut W, reply: u64, words: &[u64]) -> io::Result<()>
+    ensures { OnOk result (Appends (W.contents out.old) (W.contents out.new) (codes "r " ++ decimal reply ++ flat_map (λ n. codes " " ++ decimal n) words.now ++ codes "\n")) }
+{
+    write!(out, "r {reply}")?;
+    numbers(out, words)
 }
 
 // The first byte of a line that is of no kind.
@@ -115,6 +133,28 @@ pub fn read_numbers(alloc: Global, line: &[u8], most: usize) -> Result<Vec<u64>,
     numbers_in(line).take(most).collect(alloc)
 }
 
+// The kind of a line, if it is of one, and its numbers, at most so many. Only a line of kind `uncut` keeps a number that its end cuts off.
+pub fn kind_and_numbers<K: TryFrom<u8, Error = OtherLine> + PartialEq + Copy>(
+    alloc: Global,
+    line: &[u8],
+    uncut: K,
+    most: usize,
+) -> Result<Option<(K, Vec<u64>)>, AllocError>
+    ensures first { IfOk result (λ told. IfSome told (λ t. (b : ℕ) × (slice_get line.now 0 ≡ Some b) × K.try_from_gives b (Ok t.0))) }
+    ensures other { IfOk result (λ told. IsNone told → IfSome (slice_get line.now 0) (λ b. (e : OtherLine) × K.try_from_gives b (Err e))) }
+    ensures most { IfOk result (λ told. IfSome told (λ t. vec_len t.1 ≤ most)) }
+{
+    let Some(kind) = kind_of::<K>(line) else {
+        return Ok(None);
+    };
+    let whole = if kind == uncut {
+        line
+    } else {
+        without_cut(line)
+    };
+    Ok(Some((kind, read_numbers(alloc, whole, most)?)))
+}
+
 // The first of some numbers; those that are missing are 0.
 pub fn first_of<const N: usize>(numbers: &[u64]) -> [u64; N]
     ensures { (i : ℕ) → i < N → slice_index result i ≡ get_or numbers.now i 0 }
@@ -150,6 +190,39 @@ mod tests {
         Ok(())
     }
 
+    #[derive(Clone, Copy, Debug, PartialEq, Eq)]
+    enum Kind {
+        Cut,
+        Uncut,
+    }
+
+    impl TryFrom<u8> for Kind {
+        type Error = OtherLine;
+
+        fn try_from(first: u8) -> Result<Self, OtherLine> {
+            match first {
+                b'm' => Ok(Kind::Cut),
+                b'n' => Ok(Kind::Uncut),
+                _ => Err(OtherLine(first)),
+            }
+        }
+    }
+
+    #[test]
+    fn reads_kinds(rt: HostRuntime) -> Result<(), Fail> {
+        let cut = kind_and_numbers(rt.alloc(), b"m 1 23", Kind::Uncut, 256)?;
+        assert!(rt;
+            cut.is_some_and(|(kind, n)| kind == Kind::Cut && n.as_slice() == [1].as_slice())
+        );
+        let uncut = kind_and_numbers(rt.alloc(), b"n 1 23", Kind::Uncut, 256)?;
+        assert!(rt;
+            uncut.is_some_and(|(kind, n)| kind == Kind::Uncut && n.as_slice() == [1, 23].as_slice())
+        );
+        let other = kind_and_numbers(rt.alloc(), b"x 1\n", Kind::Uncut, 256)?;
+        assert!(rt; other.is_none());
+        Ok(())
+    }
+
     #[test]
     fn writes_lines(rt: HostRuntime) -> Result<(), Fail> {
         let mut out = Vec::new(rt.alloc());
@@ -158,6 +231,10 @@ mod tests {
         number(&mut out, u64::MAX)?;
         line_ends(&mut out)?;
         assert_eq!(rt; out.as_slice(), b"r 0 18446744073709551615\n".as_slice());
+        out.clear();
+        numbers(&mut out, &[7, 0])?;
+        reply_line(&mut out, 3, &[10])?;
+        assert_eq!(rt; out.as_slice(), b" 7 0\nr 3 10\n".as_slice());
         Ok(())
     }
 }

@@ -16,7 +16,7 @@
 ghost use Rattle.std.specs.Prelude.{◌≤◌, vec_len};
 ghost use Rattle.std.specs.Io.{StartsWith};
 
-use lines::{OtherLine, first_of, kind_of, line_ends, number, read_numbers, without_cut};
+use lines::{OtherLine, first_of, kind_and_numbers, reply_line};
 use std::alloc::{AllocError, Global};
 use std::io::{self, BufRead, BufReader, BufWriter, Read, Write};
 use steps::numbers::SUCCESS;
@@ -91,7 +91,8 @@ fn digest(words: &[u64]) -> u64 {
     h
 }
 
-// The words of a step table up to the last that was written.
+// The words of a step table up to the last that was written. `lines::without_cut` differs in its test: one function for both would have to
+// say of any test what its calls give, which takes more lines than this match.
 fn written(step: &[u64]) -> &[u64]
     ensures { StartsWith step.now result.now }
 {
@@ -146,15 +147,6 @@ struct Replay<'a, W> {
 }
 
 impl<W: Write> Replay<'_, W> {
-    // A reply, and the step table up to the last word that was written.
-    fn show_reply(&mut self, reply: u64, step: &[u64]) -> io::Result<()> {
-        write!(self.out, "r {reply}")?;
-        for word in written(step) {
-            number(self.out, *word)?;
-        }
-        line_ends(self.out)
-    }
-
     // What a call leaves besides its step.
     fn show_state(&mut self, right: usize) -> io::Result<()> {
         if self.state.is_empty() {
@@ -173,7 +165,7 @@ impl<W: Write> Replay<'_, W> {
     }
 
     fn show_call(&mut self, reply: u64, lent: &Lent) -> io::Result<()> {
-        self.show_reply(reply, &lent.step)?;
+        reply_line(self.out, reply, written(&lent.step))?;
         let right = lent.right(self.state.len());
         self.show_state(right)
     }
@@ -187,11 +179,12 @@ impl<W: Write> Replay<'_, W> {
         if reply == SUCCESS {
             self.state = state;
         }
-        self.show_reply(reply, &[])?;
+        reply_line(self.out, reply, &[])?;
         self.show_state(0)
     }
 
-    // A line that lacks numbers makes no call, and shows what one would be lent.
+    // A line that lacks numbers makes no call, and shows what one would be lent. `FILL` is shown in the place of its reply as well, here and in
+    // `skip`: the None of an Option would have no other use.
     fn make_none(&mut self) -> io::Result<()> {
         let lent = Lent::new(self.alloc, &self.state, 0)?;
         self.show_call(FILL, &lent)
@@ -239,21 +232,15 @@ impl<W: Write> Replay<'_, W> {
             Some(target) => engine::hb_skip(*target, &mut self.state),
             None => FILL,
         };
-        self.show_reply(reply, &[])?;
+        reply_line(self.out, reply, &[])?;
         self.show_state(0)
     }
 
     fn line(&mut self, text: &[u8]) -> io::Result<()> {
-        let Some(kind) = kind_of(text) else {
+        let Some((kind, given)) = kind_and_numbers(self.alloc, text, Kind::Create, MOST_NUMBERS)?
+        else {
             return Ok(());
         };
-        // Only a create takes a number that the end of the input cuts off.
-        let whole = if kind == Kind::Create {
-            text
-        } else {
-            without_cut(text)
-        };
-        let given = read_numbers(self.alloc, whole, MOST_NUMBERS)?;
         match kind {
             Kind::Create => self.create(first_of(&given)),
             Kind::Propose => self.propose(&given),

@@ -3,19 +3,17 @@
 
 ghost use Rattle.std.specs.Prelude.{◌≤◌};
 
-use lines::{line_ends, number};
+use lines::numbers;
 use state::range::state_length;
+use std::array;
 use std::io::{self, BufWriter, Write};
 
 fn row<W: Write>(out: &mut W, n: usize) -> io::Result<()>
     requires { (1 ≤ n) × (n ≤ 16) }
 {
-    let first = state_length(n, 0);
-    write!(out, "{first}")?;
-    for ahead in 1..16 {
-        number(out, state_length(n, ahead) as u64)?;
-    }
-    line_ends(out)
+    let lengths: [u64; 16] = array::from_fn(|ahead| state_length(n, ahead) as u64);
+    write!(out, "{}", lengths[0])?;
+    numbers(out, &lengths[1..])
 }
 
 fn main(rt: HostRuntime) -> io::Result<()> {

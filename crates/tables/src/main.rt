@@ -15,7 +15,7 @@ ghost use Rattle.std.specs.Prelude.{◌≤◌, ◌<◌};
 ghost use Rattle.network.specs.Network.{Network};
 
 use decryption::ThresholdDecrypt;
-use lines::{OtherLine, first_of, kind_of, line_ends, number, read_numbers, say, without_cut};
+use lines::{OtherLine, first_of, kind_and_numbers, numbers, say};
 use network::network_info::NetworkInfo;
 use std::alloc::Global;
 use std::fmt;
@@ -30,10 +30,9 @@ const MOST_BYTES: u64 = 65_536;
 
 const MOST_NUMBERS: usize = 256;
 
-// What a line asks for.
+// What a line of numbers asks for.
 #[derive(Clone, Copy, Debug, PartialEq, Eq)]
 enum Kind {
-    Text,
     Parts,
     Instance,
     Share,
@@ -44,7 +43,6 @@ impl TryFrom<u8> for Kind {
 
     fn try_from(first: u8) -> Result<Self, OtherLine> {
         match first {
-            b'=' => Ok(Kind::Text),
             b'p' => Ok(Kind::Parts),
             b'i' => Ok(Kind::Instance),
             b's' => Ok(Kind::Share),
@@ -55,11 +53,8 @@ impl TryFrom<u8> for Kind {
 
 // The words of a step table, a line.
 fn show<W: Write>(out: &mut W, words: &[u64]) -> io::Result<()> {
-    write!(out, "  step")?;
-    for word in words {
-        number(out, *word)?;
-    }
-    line_ends(out)
+    say(out, b"  step")?;
+    numbers(out, words)
 }
 
 // What an answer about a node came to: refused, a = 0, or its last output if it had one. As `Result<Option<Option<u64>>, Stop>` the outcomes
@@ -148,23 +143,20 @@ fn instance(given: &[u64]) -> ThresholdDecrypt {
 
 // The instance that gets shares, and where lines are written.
 #[derive(Drop)]
-struct Tables<'a, W> {
+struct Tables<W> {
     alloc: Global,
-    out: &'a mut W,
+    out: W,
     td: ThresholdDecrypt,
 }
 
-impl<W: Write> Tables<'_, W> {
+impl<W: Write> Tables<W> {
     // An answer's parts as a step of epoch 3: first counted, then written. A refused one writes nothing, a failed one a header.
     fn parts(&mut self, kind: u64, who: usize, answers: &[u64]) -> io::Result<()> {
         if !answers::table_ok(4, answers) {
             return writeln!(self.out, "  reply {ANSWERS_MALFORMED}");
         }
         let mut words = [9u64; 20];
-        let mut counting = Writer {
-            step: Step::counting(),
-            words: &mut [],
-        };
+        let mut counting = Writer::counting();
         let told = hear(answers, kind, who, &mut counting);
         let counted = counting.step;
         writeln!(self.out, "  {told}")?;
@@ -179,7 +171,7 @@ impl<W: Write> Tables<'_, W> {
                 hear(answers, kind, who, &mut writer);
             }
         }
-        show(self.out, &words)
+        show(&mut self.out, &words)
     }
 
     // A share of a sender for proposer 0, at an observer of four nodes. The instance stays as that leaves it.
@@ -188,16 +180,13 @@ impl<W: Write> Tables<'_, W> {
     {
         let mut before = self.td;
         let net = network();
-        let mut counting = Writer {
-            step: Step::counting(),
-            words: &mut [],
-        };
+        let mut counting = Writer::counting();
         let first = &mut Reader::new(answers);
         let handled = self
             .td
             .handle_message(net, 0, sender, handle, first, &mut counting);
         let counted = counting.step;
-        show_result(self.out, handled)?;
+        show_result(&mut self.out, handled)?;
         let mut words = [9u64; 20];
         match handled {
             Err(Stop::NotNext) => {}
@@ -211,23 +200,17 @@ impl<W: Write> Tables<'_, W> {
                 let _ = before.handle_message(net, 0, sender, handle, second, &mut writer);
             }
         }
-        show(self.out, &words)
+        show(&mut self.out, &words)
     }
 
     fn line(&mut self, line: &[u8]) -> io::Result<()> {
-        let Some(kind) = kind_of(line) else {
+        if let [b'=', text @ ..] = line {
+            return say(&mut self.out, text.get(1..).unwrap_or(&[]));
+        }
+        let Some((kind, given)) = kind_and_numbers(self.alloc, line, Kind::Instance, MOST_NUMBERS)?
+        else {
             return Ok(());
         };
-        if kind == Kind::Text {
-            return say(self.out, line.get(2..).unwrap_or(&[]));
-        }
-        // Only an instance takes a number that the end of the input cuts off.
-        let whole = if kind == Kind::Instance {
-            line
-        } else {
-            without_cut(line)
-        };
-        let given = read_numbers(self.alloc, whole, MOST_NUMBERS)?;
         match (kind, given.as_slice()) {
             (Kind::Instance, given) => {
                 self.td = instance(given);
@@ -242,23 +225,16 @@ impl<W: Write> Tables<'_, W> {
     }
 }
 
-// The lines of the input, in order.
-fn each_line<W: Write>(alloc: Global, text: &[u8], out: &mut W) -> io::Result<()> {
+fn main(rt: HostRuntime) -> io::Result<()> {
+    let alloc = rt.alloc();
+    let mut text = Vec::new(alloc);
+    rt.reader().take(MOST_BYTES).read_to_end(&mut text)?;
     let mut tables = Tables {
         alloc,
-        out,
+        out: BufWriter::new(alloc, io::writer(&rt))?,
         td: ThresholdDecrypt::new(),
     };
-    for line in text.split_inclusive(|b| *b == b'\n') {
-        tables.line(line)?;
-    }
-    Ok(())
-}
-
-fn main(rt: HostRuntime) -> io::Result<()> {
-    let mut text = Vec::new(rt.alloc());
-    rt.reader().take(MOST_BYTES).read_to_end(&mut text)?;
-    let mut out = BufWriter::new(rt.alloc(), io::writer(&rt))?;
-    each_line(rt.alloc(), &text, &mut out)?;
-    out.flush()
+    text.split_inclusive(|b| *b == b'\n')
+        .try_for_each(|line| tables.line(line))?;
+    tables.out.flush()
 }

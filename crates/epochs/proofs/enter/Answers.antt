@@ -13,4 +13,4 @@ listed strategy n w b some words answer went_on =
 
 pub handle-requires : goal.handle-requires
 handle-requires c =
-    (c.requires, listed _ _ _ _ c.args.call.how.network.some c.requires c.epoch_in_range.ensures c.if-not-epoch_in_range.false, c.input.ensures)
+    (c.requires, listed _ _ _ _ c.args.call.how.network.some c.requires c.epoch_in_range.ensures c.if-not-epoch_in_range.false, c.args.call.comes)
