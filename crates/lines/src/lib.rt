@@ -31,7 +31,7 @@ pub fn number<W: Write>(out: &mut W, n: u64) -> io::Result<()>
 }
 
 // The rest of a line of numbers.
-pub fn numbers<W: Write>(out: &mut W, words: &[u64]) -> io::Result<()>
+pub fn write_numbers<W: Write>(out: &mut W, words: &[u64]) -> io::Result<()>
     ensures { OnOk result (Appends (W.contents out.old) (W.contents out.new) (flat_map (λ n. codes " " ++ decimal n) words.now ++ codes "\n")) }
 {
     for word in words {
@@ -45,7 +45,7 @@ pub fn reply_line<W: Write>(out: &mut W, reply: u64, words: &[u64]) -> io::Resul
     ensures { OnOk result (Appends (W.contents out.old) (W.contents out.new) (codes "r " ++ decimal reply ++ flat_map (λ n. codes " " ++ decimal n) words.now ++ codes "\n")) }
 {
     write!(out, "r {reply}")?;
-    numbers(out, words)
+    write_numbers(out, words)
 }
 
 // The first byte of a line that is of no kind.
@@ -232,7 +232,7 @@ mod tests {
         line_ends(&mut out)?;
         assert_eq!(rt; out.as_slice(), b"r 0 18446744073709551615\n".as_slice());
         out.clear();
-        numbers(&mut out, &[7, 0])?;
+        write_numbers(&mut out, &[7, 0])?;
         reply_line(&mut out, 3, &[10])?;
         assert_eq!(rt; out.as_slice(), b" 7 0\nr 3 10\n".as_slice());
         Ok(())

@@ -3,7 +3,7 @@
 
 ghost use Rattle.std.specs.Prelude.{◌≤◌};
 
-use lines::numbers;
+use lines::write_numbers;
 use state::range::state_length;
 use std::array;
 use std::io::{self, BufWriter, Write};
@@ -13,7 +13,7 @@ fn row<W: Write>(out: &mut W, n: usize) -> io::Result<()>
 {
     let lengths: [u64; 16] = array::from_fn(|ahead| state_length(n, ahead) as u64);
     write!(out, "{}", lengths[0])?;
-    numbers(out, &lengths[1..])
+    write_numbers(out, &lengths[1..])
 }
 
 fn main(rt: HostRuntime) -> io::Result<()> {

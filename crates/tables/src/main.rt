@@ -15,7 +15,7 @@ ghost use Rattle.std.specs.Prelude.{◌≤◌, ◌<◌};
 ghost use Rattle.network.specs.Network.{Network};
 
 use decryption::ThresholdDecrypt;
-use lines::{OtherLine, first_of, kind_and_numbers, numbers, say};
+use lines::{OtherLine, first_of, kind_and_numbers, say, write_numbers};
 use network::network_info::NetworkInfo;
 use std::alloc::Global;
 use std::fmt;
@@ -54,7 +54,7 @@ impl TryFrom<u8> for Kind {
 // The words of a step table, a line.
 fn show<W: Write>(out: &mut W, words: &[u64]) -> io::Result<()> {
     say(out, b"  step")?;
-    numbers(out, words)
+    write_numbers(out, words)
 }
 
 // What an answer about a node came to: refused, a = 0, or its last output if it had one. As `Result<Option<Option<u64>>, Stop>` the outcomes
