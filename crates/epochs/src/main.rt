@@ -182,8 +182,8 @@ impl Call {
     }
 }
 
-// `build`, `hand_out`, `epoch_length` and the match on a content have bodies of their own, though `work`, `state` and `calls` have such functions:
-// the program tests `epoch` without the layers above it.
+// `work`, `state` and `calls` have functions with the bodies of `build`, `hand_out` and `epoch_length` and with the match on a content above. The
+// program tests `epoch` without the layers above it, so it has its own.
 //
 // `epoch`, `call`, `reader` and `writer` are no struct: it would hold three `&mut`, and each function that is lent it would owe that they are
 // the same ones afterwards.
@@ -346,11 +346,8 @@ impl<W: Write> Epochs<W> {
             words: &mut table,
         };
         let ran = run_in(&mut words, call, answers, &mut writer);
-        reply_line(
-            &mut self.out,
-            ran.map_or_else(u64::from, |_| SUCCESS),
-            &table,
-        )?;
+        let reply = ran.map_or_else(u64::from, |_| SUCCESS);
+        reply_line(&mut self.out, reply, &table)?;
         if ran != Ok(true) {
             show_words(&mut self.out, &words)?;
         }
@@ -409,6 +406,7 @@ impl<W: Write> Epochs<W> {
     }
 }
 
+// `tables` has these lines over its own limit and struct; a function for both would hand back the text and take the writer, for two calls.
 fn main(rt: HostRuntime) -> io::Result<()> {
     let alloc = rt.alloc();
     let mut text = Vec::new(alloc);
