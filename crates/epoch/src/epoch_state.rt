@@ -21,11 +21,11 @@ use epochwords::SubsetHandlingStrategy;
 use epochwords::entry::{DecryptionState, load_decryption, open_entry, store_decryption};
 use epochwords::words::{ACCEPTED_AT, STATUS_AT, STATUS_COMPLETE, STATUS_ONGOING};
 use network::network_info::NetworkInfo;
+use proposal::ProposalState;
 use steps::bits::{has_bit, with_bit};
 use steps::kinds::{AnswerKind, Failure, FaultKind, Stop};
 use steps::reader::{Content, Reader};
 use steps::step::Writer;
-use proposal::ProposalState;
 use subset::words::{ARRIVAL_FIELD, COUNT_AT, DECIDED_AT, VALUE_FIELD, record_at, store_proposal};
 
 // What an epoch runs with: its network, when contributions are handled, and whether they are encrypted.

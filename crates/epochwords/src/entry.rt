@@ -43,9 +43,7 @@ pub fn load_decryption(epoch: &[u64], n: usize, p: usize) -> Option<DecryptionSt
     match epoch[record_at(n, p, DECRYPTION_FIELD)] {
         ENTRY_NONE => None,
         ENTRY_ONGOING => Some(DecryptionState::Ongoing(load_instance(epoch, n, p))),
-        _ => Some(DecryptionState::Complete(
-            epoch[record_at(n, p, PLAINTEXT_FIELD)],
-        )),
+        _ => Some(DecryptionState::Complete(epoch[record_at(n, p, PLAINTEXT_FIELD)])),
     }
 }
 
