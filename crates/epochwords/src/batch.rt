@@ -1,10 +1,11 @@
 // The batch of an epoch, after batch.rs and `try_output_batch` of epoch_state.rs. The epoch's words are only read.
-ghost use Rattle.std.specs.Prelude.{◌≡◌, ◌&&◌, not, ◌<◌};
+ghost use Rattle.std.specs.Prelude.{◌≡◌, ◌&&◌, not, ◌<◌, ◌≤◌, get_or};
+ghost use Rattle.subset.specs.Words.{field_at};
 ghost use Rattle.steps.specs.Steps.{put_all};
 ghost use Rattle.steps.specs.Runs.{leaves};
 ghost use Rattle.steps.specs.Written.{out_of, same_table, left};
 ghost use Rattle.epochwords.specs.Shape.{Records};
-ghost use Rattle.epochwords.specs.Words.{is_accepted, is_settled, decryption_in};
+ghost use Rattle.epochwords.specs.Words.{is_accepted, is_settled, decryption_in, plaintext_field};
 ghost use Rattle.epochwords.specs.Batch.{is_ready_in, is_read, read_at, read_from, entries_from, output_batch_in};
 
 use crate::tags::{is_open, is_settled};
@@ -13,7 +14,7 @@ use steps::bits::{has_bit, with_bit};
 use steps::kinds::{AnswerKind, FaultKind, OutputKind, Stop};
 use steps::reader::Reader;
 use steps::step::Writer;
-use subset::words::RECORDS_AT;
+use subset::words::field_at;
 
 // The words of an epoch as its batch is read from them: n records of `size` words each.
 #[derive(Clone, Copy)]
@@ -25,14 +26,21 @@ pub struct EpochRecords<'a> {
 }
 
 impl EpochRecords<'_> {
+    // Word `field` of proposer p's record.
+    fn word(self, p: usize, field: usize) -> u64
+        requires { (p < self.n) × (field ≤ plaintext_field) }
+        ensures { result ≡ get_or self.entry.words.now (field_at self.entry.size p field) 0 }
+    {
+        self.words[field_at(self.size, p, field)]
+    }
+
     // Whether the epoch waits for the contribution of proposer p.
     #[tactic(auto, unfolding(crate::specs::Words::is_accepted))]
     fn is_awaited(self, p: usize) -> bool
         requires { p < self.n }
         ensures { result ≡ (is_accepted self.entry.words.now p && not (is_settled (decryption_in self.entry.size self.entry.words.now p))) }
     {
-        let at = RECORDS_AT + p * self.size + DECRYPTION_FIELD;
-        has_bit(self.words[ACCEPTED_AT], p) & !is_settled(self.words[at])
+        has_bit(self.words[ACCEPTED_AT], p) & !is_settled(self.word(p, DECRYPTION_FIELD))
     }
 
     // Whether the subset is done, and the epoch waits for no accepted contribution.
@@ -57,8 +65,7 @@ impl EpochRecords<'_> {
         requires { p < self.n }
         ensures { result ≡ is_read self.entry.size self.entry.words.now p }
     {
-        let at = RECORDS_AT + p * self.size + DECRYPTION_FIELD;
-        has_bit(self.words[ACCEPTED_AT], p) & is_open(self.words[at])
+        has_bit(self.words[ACCEPTED_AT], p) & is_open(self.word(p, DECRYPTION_FIELD))
     }
 
     // Asks whether the contribution of proposer p reads, where it belongs to the batch: its bit joins the readable ones. One that doesn't
@@ -107,8 +114,7 @@ impl EpochRecords<'_> {
     {
         for p in 0..self.n {
             if has_bit(readable, p) {
-                let at = RECORDS_AT + p * self.size + PLAINTEXT_FIELD;
-                writer.output(OutputKind::Entry, p as u64, self.words[at]);
+                writer.output(OutputKind::Entry, p as u64, self.word(p, PLAINTEXT_FIELD));
             }
         }
     }

@@ -13,14 +13,15 @@ use crate::numbers::{FAULT_PART, MESSAGE_PART, OUTPUT_PART};
 use crate::step::Writer;
 use std::marker::Model;
 
-// Where a reader stands in an answer table: the index of the record to be read next, 0 at the end, and the index of the last record.
+// Where a reader stands in an answer table: the index of the record to be read next, and the index of the last record. 0 is the end, as a next is
+// in the table itself.
 #[derive(Clone, Copy, Debug)]
 struct Cursor {
     place: usize,
     last: usize,
 }
 
-// A record of the answer table, with the place after it.
+// A record of the answer table, with the place after it. Its kind is a number, as the host has written it.
 #[derive(Clone, Copy, Debug)]
 struct Record {
     next: usize,
@@ -54,22 +55,24 @@ pub enum Content {
     Agreement,
 }
 
-impl Content {
-    // The kind of its messages in the step.
-    fn messages(self) -> MessageKind
-        ensures { message_number result ≡ message_kind self }
-    {
-        match self {
+// The kind of its messages in the step.
+impl From<Content> for MessageKind {
+    ghost from_gives = { λ content kind. message_number kind ≡ message_kind content };
+
+    fn from(content: Content) -> MessageKind {
+        match content {
             Content::Broadcast => MessageKind::Broadcast,
             Content::Agreement => MessageKind::Agreement,
         }
     }
+}
 
-    // The kind of its faults.
-    fn faults(self) -> FaultKind
-        ensures { fault_number result ≡ fault_kind self }
-    {
-        match self {
+// The kind of its faults.
+impl From<Content> for FaultKind {
+    ghost from_gives = { λ content kind. fault_number kind ≡ fault_kind content };
+
+    fn from(content: Content) -> FaultKind {
+        match content {
             Content::Broadcast => FaultKind::BroadcastFault,
             Content::Agreement => FaultKind::AgreementFault,
         }
@@ -99,9 +102,9 @@ impl Record {
         ensures table { same_table writer.old writer.new }
     {
         if self.kind == MESSAGE_PART {
-            writer.message(content.messages(), proposer as u64, self.b);
+            writer.message(content.into(), proposer as u64, self.b);
         } else if self.kind == FAULT_PART {
-            writer.fault(content.faults(), self.a, self.b);
+            writer.fault(content.into(), self.a, self.b);
         }
     }
 }

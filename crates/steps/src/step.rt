@@ -25,7 +25,7 @@ pub struct Step {
 }
 
 // A step with the table that it is written to, lent to each layer. It stands beside the reader in parameter lists and in no struct with it: that
-// would hold two `&mut`, and each function that is lent it would owe that both are the same after it, as `same_table` says of the words here.
+// was tried. A struct that holds `&mut` words has no `Model`: clauses no longer saw the reader's tape, nor what the caller's words became.
 #[derive(Drop)]
 pub struct Writer<'a> {
     pub step: Step,

@@ -46,7 +46,7 @@ pub const RECEIVED_TAGS: u64 = 1 << TAG_HAS_VALUE | 1 << TAG_COMPLETE_TRUE;
 pub const INCOMPLETE_TAGS: u64 = 1 << TAG_ONGOING | 1 << TAG_HAS_VALUE | 1 << TAG_ACCEPTED;
 
 // Where word `field` of proposer p's record is, where a record has `size` words.
-fn field_at(size: usize, p: usize, field: usize) -> usize
+pub fn field_at(size: usize, p: usize, field: usize) -> usize
     requires { field_at size p field < 2 ^ 64 }
     ensures { result ≡ field_at size p field }
 {
