@@ -48,7 +48,8 @@ pub fn record_ok(n: u64, context: u64, kind: u64, a: u64, b: u64) -> bool
     }
 }
 
-// The context for what follows a record: an answer of 3 to 7 with a = 1 opens one, its parts keep it, all else ends it.
+// The context for what follows a record: an answer of 3 to 7 with a = 1 opens one, its parts keep it, all else ends it. Kinds are numbers for the
+// reason above.
 #[tactic(auto, unfolding(steps::specs::Table::context_after))]
 fn context_after(context: u64, kind: u64, a: u64) -> u64
     ensures { result ≡ context_after context kind a }

@@ -2,7 +2,7 @@
 // What is left in scratch is cleared by the caller.
 //
 // state, scratch, answers and table are no struct: C lends each as a slice of its own, and a struct of them would hold three `&mut` and owe
-// that they are the same ones afterwards.
+// that they are the same ones afterwards. Epoch and call are one with the state where it is only read (`HoneyBadger`); here it is written.
 ghost use Rattle.std.specs.Prelude.{◌≡◌, length, List, [], ◌∷◌, true, ℕ, ◌≤◌};
 ghost use Rattle.steps.specs.Answers.{tape_of};
 ghost use Rattle.steps.specs.Steps.{fault, out, counting};

@@ -1,4 +1,5 @@
-// Propose and message that have passed their checks, after honey_badger.rs. What is left in scratch is cleared by the caller.
+// Propose and message that have passed their checks, after honey_badger.rs. What is left in scratch is cleared by the caller. Why the four slices are
+// no struct stands in call.rt.
 ghost use Rattle.std.specs.Prelude.{◌≡◌};
 ghost use Rattle.steps.specs.Answers.{tape_of};
 ghost use Rattle.state.specs.State.{current_epoch};

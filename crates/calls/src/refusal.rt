@@ -31,6 +31,7 @@ impl Refusal {
     }
 }
 
+// Written out like those of steps/kinds.rt: the gate refuses a derive or a macro of our own.
 impl From<Refusal> for u64 {
     ghost from_gives = { λ refusal reply. reply ≡ refusal_number refusal };
 

@@ -1,7 +1,8 @@
 // Collaborative threshold decryption, after threshold_decrypt.rs.
 //
 // Shares and the ciphertext are handles, and 0 stands for none: no Option, since a word of the state holds either (docs/STATE.md). Methods change an
-// instance in place: it is 144 bytes long as measured, and the stack on a share's way should hold few of them.
+// instance in place: it is 144 bytes long as measured, and the stack on a share's way should hold few of them. `net` and `proposer` go along as two
+// plain values: there is no fact about both that a struct could keep.
 #![tactic(auto)]
 
 ghost use Rattle.std.specs.Prelude.{◌≡◌, ◌<◌};

@@ -30,7 +30,7 @@ pub struct Numbers {
 }
 
 impl Numbers {
-    // The schedule's numbers.
+    // The schedule's numbers: three of the ten, so that a `From` would not say which.
     fn schedule_numbers(self) -> ScheduleNumbers
         ensures { (result.kind ≡ self.schedule) × (result.first ≡ self.first) × (result.second ≡ self.second) }
     {

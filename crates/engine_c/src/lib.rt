@@ -1,5 +1,6 @@
 // The engine for C: libbelkjund.a is compiled from this crate, and include/belkjund.h declares what it exports. Each export calls the engine's function
-// of its name and promises what that one does. A slice crosses as a pointer and a length in words.
+// of its name and promises what that one does. A slice crosses as a pointer and a length in words. Each is written out again because a crate is a
+// library or a static library, and what C calls has to stand in the latter.
 #![tactic(auto)]
 
 ghost use Rattle.std.specs.Prelude.{◌≡◌};

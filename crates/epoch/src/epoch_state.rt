@@ -495,7 +495,8 @@ fn call_subset(
     process_subset(epoch, setting, done, reader, writer)
 }
 
-// `propose` and `handle_message_content`, by what comes: there is one way through the subset, so that the compiler has one frame for it.
+// `propose` and `handle_message_content`, by what comes: there is one way through the subset, so that the compiler has one frame for it. By `match`,
+// here and wherever a content or an input decides: the interface closes the set, and a closure would borrow reader and writer.
 pub fn handle(
     epoch: &mut [u64],
     setting: Setting,

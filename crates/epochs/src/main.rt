@@ -182,8 +182,8 @@ impl Call {
     }
 }
 
-// `work`, `state` and `calls` have functions with the bodies of `build`, `hand_out` and `epoch_length` and with the match on a content above. The
-// program tests `epoch` without the layers above it, so it has its own.
+// `work`, `state` and `calls` have functions with the bodies of `build`, `hand_out` and `epoch_length`, with the match on a content above, and an
+// `End`. The program tests `epoch` without the layers above it, so it has its own.
 //
 // `epoch`, `call`, `reader` and `writer` are no struct: it would hold three `&mut`, and each function that is lent it would owe that they are
 // the same ones afterwards.

@@ -69,7 +69,7 @@ fn store_shares(epoch: &mut [u64], n: usize, p: usize, shares: &[u64; 16])
     copy(&shares[..n], &mut epoch[first..first + n]);
 }
 
-// Sets all words of proposer p's entry.
+// Sets all words of proposer p's entry. Its tag is a number, as the word is.
 pub fn store_entry(
     epoch: &mut [u64],
     n: usize,

@@ -1,4 +1,7 @@
 // Where the words of an epoch are (docs/STATE.md), by name; those that the subset uses are in its own words.rt.
+//
+// `EpochWords` and `Listed` stand in clauses and in no struct over the words, but for a batch's, which several functions read (batch.rt): elsewhere
+// they are lent by `&mut`, as subset.rt says, or to one function, for which each caller would make a struct, with the same fact to prove.
 ghost use Rattle.std.specs.Prelude.{◌≡◌, length};
 
 // The epoch's own words.

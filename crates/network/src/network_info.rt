@@ -2,8 +2,8 @@
 ghost use Rattle.std.specs.Prelude.{◌≡◌};
 ghost use Rattle.network.specs.Network.{is_validator, is_node_validator, num_correct, Network};
 
-// That its numbers are in range, `Network`, is a fact of clauses and not of the type: `state::words::net_of` makes one of a header before its words are
-// known to be in range, and `is_validator` asks nothing of it.
+// That its numbers are in range, `Network`, is a fact of clauses and not of the type: `state::words::net_of` asks its callers for a header's length
+// alone, and `is_validator` asks for nothing. In the type the fact would ask more of both.
 #[derive(Clone, Copy)]
 pub struct NetworkInfo {
     pub num_nodes: usize,

@@ -36,7 +36,7 @@ pub fn scratch_length(state: &[u64]) -> usize
     state.len()
 }
 
-// Whether the header is in range. What could overflow is tested first.
+// Whether the header is in range. What could overflow is tested first. The rule is about words of the host's: any numbers.
 fn header_in_range(state: &[u64]) -> bool
     requires { header_length ≤ length state.now }
     ensures { result ≡ header_in_range state.now }

@@ -1,4 +1,7 @@
 // The words of the state (docs/STATE.md): the header's words by name, where an epoch lives, and copying and clearing it.
+//
+// `StateWords`, and the lengths of what is copied, stand in clauses and in no struct over the words: they are lent, some by `&mut`, and callers
+// would make such a struct for one call each, with the same fact to prove.
 ghost use Rattle.std.specs.Prelude.{◌≡◌, ◌+◌, ◌≤◌, length};
 ghost use Rattle.steps.specs.Numbers.{node_limit};
 ghost use Rattle.subset.specs.Words.{epoch_length};

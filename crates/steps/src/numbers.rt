@@ -1,6 +1,6 @@
 // The interface's numbers by name, for every crate (specs/Numbers.antt has the same for the definitions). What the code hands about is an enum
-// (kinds.rt, and `Refusal` of the crate calls). The numbers here are compared with words that the host lends, are limits, or are replies, as
-// the calls answer them.
+// (kinds.rt, and `Refusal` and `End` of the crate calls). The numbers here are compared with words that the host lends, or are limits, or replies:
+// the engine's own 0, and those that test programs print which stand on none of the crate calls.
 
 use crate::kinds::{AnswerKind, MessageKind};
 

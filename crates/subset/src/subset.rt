@@ -1,8 +1,8 @@
 // The subset over the words of one epoch, after subset.rs. `error` is the failure that the caller gives the error of an instance.
 //
-// `EpochWords` stands in each contract, and words, network, reader and writer are parameters one by one: the words are lent by `&mut`. A struct
+// `EpochWords` stands in each contract, and words, network, error, reader and writer are parameters one by one: the words are lent by `&mut`. A struct
 // over them was tried, and proves; but each function that is lent it then owes that the words are the same ones (as `same_table` says for the
-// writer) in place of the one `requires` that goes.
+// writer) in place of the one `requires` that goes. Network and error alone, two values without a fact about both, are no plainer as one.
 ghost use Rattle.std.specs.Prelude.{◌≡◌, ◌<◌, ℕ, count_ones};
 ghost use Rattle.network.specs.Network.{Network};
 ghost use Rattle.steps.specs.Answers.{Tape};

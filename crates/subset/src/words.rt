@@ -25,7 +25,7 @@ pub const VALUE_FIELD: usize = 1;
 pub const ARRIVAL_FIELD: usize = 7;
 
 // A proposal's tag, a number because it stands in a word that the host keeps (docs/STATE.md). What the code hands on is a `ProposalState`; beside
-// this file the range rule of an epoch tests the word (epochwords/range.rt), and an epoch that drops a proposal clears it.
+// this file the range rule of an epoch tests the word (epochwords/range.rt).
 pub const TAG_ONGOING: u64 = 0;
 
 pub const TAG_HAS_VALUE: u64 = 1;

@@ -1,6 +1,6 @@
 // The engine's runs, after honey_badger.rs. A run reads the state and works on the words of one epoch apart from it.
 //
-// `words` are the words of the call's epoch.
+// `words` are the words of the call's epoch. That they are as long as an epoch's stays in clauses: they are lent by `&mut`.
 ghost use Rattle.std.specs.Prelude.{◌≡◌, true, ◌+◌, ◌≤◌, length};
 ghost use Rattle.steps.specs.Runs.{leaves};
 ghost use Rattle.steps.specs.Written.{out_of, same_table, left, left_reading};
