@@ -1,4 +1,5 @@
-// The checks of propose and message, in the interface's order (`hb_reply` in include/belkjund.h). They read alone: a call that they turn down has changed nothing.
+// The checks of propose and message, in the interface's order (`hb_reply` in include/belkjund.h). They read alone: a call that they turn down has
+// changed nothing.
 ghost use Rattle.std.specs.Prelude.{◌≡◌, ◌≤◌, length, IfOk};
 ghost use Rattle.state.specs.State.{header_length};
 ghost use Rattle.calls.specs.Calls.{content_of};
