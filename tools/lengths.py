@@ -36,7 +36,7 @@ def code():
 def proof():
     rows = "".join("    " + " ∷ ".join(map(str, row)) + " ∷\n" for row in ROWS)
     return ("-- The table of src/lengths.rt as a list, since the checker does not take it from the code. A row for each N. Made by tools/lengths.py.\n"
-            f"use Prim.Native.Nat.{{ℕ}}\nuse mathlib.Core.List.{{List, [], ◌∷◌}}\n\nabbrev pub lengths : List ℕ\nlengths =\n{rows}    []\n")
+            f"use Rattle.std.proofs.Common.{{ℕ, List, [], ◌∷◌}}\n\nabbrev pub lengths : List ℕ\nlengths =\n{rows}    []\n")
 
 
 def printed():
