@@ -22,8 +22,9 @@ def imports(text):
 
 
 def types_only(text):
-    """The declared types of a source file, without its functions."""
-    found = re.findall(r"^(?:#\[[^\n]*\]\n)?pub (?:struct|enum) \w+ \{.*?^\}", text, re.S | re.M)
+    """The declared types of a source file, without its functions, and without those that hold a fact, of which no definition speaks."""
+    found = re.findall(r"^(?:#\[[^\n]*\]\n)?(?:pub )?(?:struct|enum) \w+(?:<'a>)? \{.*?^\}", text, re.S | re.M)
+    found = [declared for declared in found if not re.search(r"^ +ghost ", declared, re.M)]
     named = set(re.findall(r"\w+", "\n".join(found)))
     kept = re.findall(r"^pub mod .*", text, re.M) + [line for line in imports(text) if line.rstrip(";").split("::")[-1] in named]
     return "\n".join(kept) + "\n\n" + "\n\n".join(found) + "\n"
@@ -32,7 +33,7 @@ def types_only(text):
 def sources(crate):
     """The source files of a crate by name, cut to their types; a module that declares none is left out."""
     texts = {file.name: types_only(file.read_text()) for file in (crate / "src").glob("*.rt")}
-    empty = {name for name, text in texts.items() if name != "lib.rt" and not re.search(r"^pub (struct|enum) ", text, re.M)}
+    empty = {name for name, text in texts.items() if name != "lib.rt" and not re.search(r"^(pub )?(struct|enum) ", text, re.M)}
     texts["lib.rt"] = "".join(line for line in texts["lib.rt"].splitlines(True) if not any(line == f"pub mod {name[:-3]};\n" for name in empty))
     return {name: text for name, text in texts.items() if name not in empty}
 
