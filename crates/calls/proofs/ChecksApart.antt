@@ -54,7 +54,7 @@ module _ (a b : ℕ) where
       go false z e = absurd (true≢false (sym (eq-eqb a 0 e) ∙ z))
 
   -- a reply that the first has not is the second's
-  then_past : leaves_scratch (then_check a b) ≡ false → leaves_scratch a ≡ false
+  pub then_past : leaves_scratch (then_check a b) ≡ false → leaves_scratch a ≡ false
   unfolding then_check
   then_past e = go (eqb a 0) refl e
     where
@@ -100,7 +100,7 @@ module _ (state : List ℕ) (scratch : ℕ) (answers : List ℕ) where
       go true true c x y e = absurd (true≢false e)
       go true false c x y e = (x, ltb-false _ _ y)
 
-  first_ok : first_checks state scratch answers ≡ 0 → state_ok state ≡ true
+  pub first_ok : first_checks state scratch answers ≡ 0 → state_ok state ≡ true
   first_ok e = (first_past (ap (leaves_scratch) e)).0
 
   pub first_header : 0 ≡ first_checks state scratch answers → header_length ≤ length state
@@ -223,7 +223,7 @@ module _ (state scratch step : List ℕ) (run : After) {call : After} {checks : 
   by_reply = ap (λ k. after_checks k state scratch step run) e ∙ sym is
 
   -- 3 and 4
-  ends_first : leaves_scratch r ≡ true → after r state scratch step ≡ call
+  pub ends_first : leaves_scratch r ≡ true → after r state scratch step ≡ call
   unfolding after_checks
   ends_first t = go (eqb r 0) refl ∙ by_reply
     where
@@ -232,7 +232,7 @@ module _ (state scratch step : List ℕ) (run : After) {call : After} {checks : 
       go false z = rw t
 
   -- the other checks
-  ends_turned : leaves_scratch r ≡ false → (r ≡ 0 → ⊥) → after r state (zeroed state scratch) step ≡ call
+  pub ends_turned : leaves_scratch r ≡ false → (r ≡ 0 → ⊥) → after r state (zeroed state scratch) step ≡ call
   unfolding after_checks
   ends_turned t n = rw (t, ne_eqb r 0 n) at by_reply
 

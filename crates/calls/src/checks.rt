@@ -3,7 +3,7 @@
 ghost use Rattle.std.specs.Prelude.{◌≡◌, ◌≤◌, length, IfOk};
 ghost use Rattle.state.specs.State.{header_length};
 ghost use Rattle.calls.specs.Calls.{content_of};
-ghost use Rattle.calls.specs.Checks.{first_checks, epoch_check, propose_checks, message_checks, content_told};
+ghost use Rattle.calls.specs.Checks.{first_checks, epoch_check, propose_checks, message_checks, leaves_scratch, content_told};
 ghost use Rattle.calls.specs.Refusals.{reply_of};
 
 use crate::refusal::Refusal;
@@ -11,7 +11,9 @@ use answers::{is_handle, table_ok};
 use epoch::MessageContent;
 use state::range::{scratch_length, state_ok};
 use state::words::{EPOCH_AT, NODES_AT};
-use steps::numbers::{AGREEMENT_CONTENT, BROADCAST_CONTENT, LAST_EPOCH, SHARE_CONTENT};
+use steps::numbers::{
+    AGREEMENT_CONTENT, BROADCAST_CONTENT, LAST_EPOCH, NOT_A_STATE, SCRATCH_TOO_SHORT, SHARE_CONTENT,
+};
 use steps::reader::Content;
 
 // 3, 4 and 5, which both operations begin with. `scratch` is its length.
@@ -50,6 +52,26 @@ pub fn propose_checks(state: &[u64], scratch: usize, answers: &[u64]) -> Result<
 {
     first_checks(state, scratch, answers)?;
     epoch_check(state)
+}
+
+// Whether a call that ends with this reply, any number, before its scratch is known leaves it: `Refusal::leaves_scratch` asks it of a refusal.
+#[tactic(auto, unfolding(crate::specs::Checks::leaves_scratch))]
+pub fn leaves_scratch(reply: u64) -> bool
+    ensures { result ≡ leaves_scratch reply }
+{
+    (NOT_A_STATE..=SCRATCH_TOO_SHORT).contains(&reply)
+}
+
+// The content that two numbers stand for, whatever they are: `MessageContent::try_from` turns down those that stand for none.
+#[tactic(auto, unfolding(crate::specs::Calls::content_of))]
+pub fn content_of(content: u64, item: u64) -> MessageContent
+    ensures { result ≡ content_of content item }
+{
+    match content {
+        BROADCAST_CONTENT => MessageContent::Subset(Content::Broadcast),
+        AGREEMENT_CONTENT => MessageContent::Subset(Content::Agreement),
+        _ => MessageContent::DecryptionShare(item),
+    }
 }
 
 // The numbers that a host gives of a message.

@@ -5,21 +5,26 @@ ghost use Rattle.calls.specs.Checks.{leaves_scratch};
 ghost use Rattle.calls.specs.declared.refusal.End.TheVariants.{Refused};
 
 use steps::kinds::Failure;
+use steps::numbers::{
+    ANSWER_NOT_NEXT, ANSWERS_MALFORMED, ANSWERS_UNREAD, EPOCH_TOO_HIGH, MESSAGE_MALFORMED,
+    NOT_A_STATE, NUMBERS_OUT_OF_RANGE, SCRATCH_TOO_SHORT, STEP_TABLE_TOO_SHORT, TARGET_TOO_HIGH,
+    UNKNOWN_SENDER, WRONG_STATE_LENGTH,
+};
 
 #[derive(Clone, Copy, Debug, PartialEq, Eq)]
 pub enum Refusal {
-    NumbersOutOfRange = 1,
-    WrongStateLength = 2,
-    NotAState = 3,
-    ScratchTooShort = 4,
-    AnswersMalformed = 5,
-    EpochTooHigh = 6,
-    MessageMalformed = 7,
-    AnswerNotNext = 8,
-    AnswersUnread = 9,
-    StepTableTooShort = 10,
-    UnknownSender = 11,
-    TargetTooHigh = 12,
+    NumbersOutOfRange = NUMBERS_OUT_OF_RANGE as isize,
+    WrongStateLength = WRONG_STATE_LENGTH as isize,
+    NotAState = NOT_A_STATE as isize,
+    ScratchTooShort = SCRATCH_TOO_SHORT as isize,
+    AnswersMalformed = ANSWERS_MALFORMED as isize,
+    EpochTooHigh = EPOCH_TOO_HIGH as isize,
+    MessageMalformed = MESSAGE_MALFORMED as isize,
+    AnswerNotNext = ANSWER_NOT_NEXT as isize,
+    AnswersUnread = ANSWERS_UNREAD as isize,
+    StepTableTooShort = STEP_TABLE_TOO_SHORT as isize,
+    UnknownSender = UNKNOWN_SENDER as isize,
+    TargetTooHigh = TARGET_TOO_HIGH as isize,
 }
 
 impl Refusal {

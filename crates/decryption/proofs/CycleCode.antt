@@ -1,6 +1,8 @@
 -- Starting and combining: each goes on with the other, as in the Rust. Assumes nothing.
-use Rattle.std.proofs.Common.{ℕ, ◌<◌, ◌≤◌, ◌≡◌, refl, ap, ◌∙◌, ap₂, List, [], ◌∷◌, Bool, true, false, cond, ◌&&◌, Option, None, Some, Ok, Err, arith, set, eqb, le-leb, eq-eqb, ne_eqb}
-use Rattle.std.proofs.lemmas.Bool.{lt-leb}
+use Rattle.std.proofs.Common.{ℕ, ◌<◌, ◌≤◌, ◌≡◌, refl, ap, ◌∙◌, ap₂, sym, List, [], ◌∷◌, Bool, true, false, cond, not, ◌&&◌, ◌||◌, Option, None, Some, Ok, Err, arith, set, eqb, ltb, le-leb, eq-eqb, ne_eqb}
+use Rattle.std.proofs.lemmas.Bool.{false≢true, and_parts, not-true, not-false, ltb-true, ltb-false, eqb-true, eqb-false, lt-leb}
+use Rattle.std.proofs.Math.Bool.{or-false}
+use Rattle.steps.specs.declared.kinds.Failure.{Failure}
 use Rattle.steps.specs.declared.kinds.Stop.{Stop}
 use Rattle.steps.specs.declared.step.Writer.{Writer}
 use Rattle.steps.specs.Written.{out_of, left}
@@ -10,7 +12,7 @@ use Rattle.network.specs.declared.network_info.NetworkInfo.{NetworkInfo}
 use Rattle.network.specs.Network.{is_validator}
 use Rattle.steps.specs.Answers.{Tape, ask}
 use Rattle.steps.specs.Steps.{Out, put_entry, put_all, message}
-use Rattle.steps.specs.Runs.{Verdict, going, failed, Run, ends, before, onward, heard, Left, leaves}
+use Rattle.steps.specs.Runs.{Verdict, going, failed, Run, ends, before, onward_as, onward, heard, Left, leaves}
 use Rattle.steps.proofs.AfterRun.{Afterwards, after_cond, after_onward, after_any, after_out, after_ask}
 use Rattle.steps.proofs.Logic.{anything}
 use Rattle.steps.proofs.StateKept.{holding}
@@ -116,7 +118,7 @@ module _ (net : NetworkInfo) (proposer : ℕ) where
         → d ≡ leaves (out_of w) (own_share net proposer (try_output net proposer) (with_input s) q) → d ≡ leaves o (start_decryption net proposer td p)
     start_goes r d n = rw (start_onward net proposer td p e z) (onward_ok _ _ _ _ w o tt r d n)
 
-    pub start_stops : (f : Stop) → left s (Err f) q w ≡ leaves o (remove_invalid_shares td p) → left {A = Option ℕ} s (Err f) q w ≡ leaves o (start_decryption net proposer td p)
+    pub start_stops : (f : Stop Failure) → left s (Err f) q w ≡ leaves o (remove_invalid_shares td p) → left {A = Option ℕ} s (Err f) q w ≡ leaves o (start_decryption net proposer td p)
     start_stops f r = rw (start_onward net proposer td p e z) (onward_err _ _ _ _ w o f r)
 
   -- the own share, which an observer does not send
@@ -137,5 +139,50 @@ module _ (net : NetworkInfo) (proposer : ℕ) where
           let k : Run ThresholdDecrypt (Option ℕ) = try (with_shares td (set td.shares net.our_id x.1)) q in
           rw own_heard (heard_ok_left _ td _ q x h d o (before_left o (message 3 proposer x.1 ∷ []) k d (n ∙ ap (λ v. leaves v k) m)))
 
-      pub own_stops : (f : Stop) → told (Err f) q ≡ heard_in (ask p 11) → (w : Writer) → left td (Err f) q w ≡ leaves (out_of w) (own_share net proposer try td p)
+      pub own_stops : (f : Stop Failure) → told (Err f) q ≡ heard_in (ask p 11) → (w : Writer) → left td (Err f) q w ≡ leaves (out_of w) (own_share net proposer try td p)
       own_stops f h w = rw own_heard (heard_err_left _ td _ q f h w)
+
+-- WHAT ONE TEST DECIDES: combining by a single look at the three, with a mark on the instance where its shares are combined
+abbrev pub marked : ThresholdDecrypt → Bool → ThresholdDecrypt
+marked td b = record { ciphertext = td.ciphertext; shares = td.shares; had_input = td.had_input; terminated = td.terminated || b }
+
+unmarked : (td : ThresholdDecrypt) → marked td false ≡ td
+unmarked td = ap (λ x. record { ciphertext = td.ciphertext; shares = td.shares; had_input = td.had_input; terminated = x }) (or-false td.terminated)
+
+module _ (net : NetworkInfo) (proposer : ℕ) where
+  -- one test for the three, where there are n shares
+  abbrev pub combines_now : ThresholdDecrypt → ℕ → Bool
+  combines_now td n = (not td.terminated && ltb net.num_faulty n) && not (eqb td.ciphertext 0)
+
+  -- what it says where it holds, m being the instance with its mark
+  abbrev pub Ready : ThresholdDecrypt → ThresholdDecrypt → Type 0
+  Ready td m = (td.terminated ≡ false) × (net.num_faulty < count_shares td.shares) × (td.ciphertext ≡ 0 → ⊥) × (m ≡ with_end td)
+
+  pub ready : (td : ThresholdDecrypt) (n : ℕ) → n ≡ count_shares td.shares → combines_now td n ≡ true → Ready td (marked td (combines_now td n))
+  ready td n k e =
+      let a = and_parts _ _ e in
+      let b = and_parts _ _ a.0 in
+      (not-true _ b.0, rw (← k) (ltb-true _ _ b.1), eqb-false _ _ (not-true _ a.1), rw (e, not-true td.terminated b.0) refl)
+
+  try_waits : (td : ThresholdDecrypt) (p : Tape) (n : ℕ) → n ≡ count_shares td.shares → combines_now td n ≡ false → try_output net proposer td p ≡ ends (going None) (marked td (combines_now td n)) p
+  try_waits td p n k e = rw (e, unmarked td) (go _ _ _ refl refl refl)
+    where
+      go : (x y z : Bool) → td.terminated ≡ x → ltb net.num_faulty n ≡ y → eqb td.ciphertext 0 ≡ z → try_output net proposer td p ≡ ends (going None) td p
+      go true y z u v w = try_ended net proposer td p u
+      go false false z u v w = try_few net proposer td p u (rw (← k) (ltb-false _ _ v))
+      go false true true u v w = try_none net proposer td p u (rw (← k) (ltb-true _ _ v)) (eqb-true _ _ w)
+      go false true false u v w = absurd (false≢true (sym e ∙ rw (u, v, w) refl))
+
+  -- once it has started, the shares are combined at once
+  try_started : (td m : ThresholdDecrypt) (p : Tape) → Ready td m → td.had_input ≡ true → try_output net proposer td p ≡ combine m p
+  unfolding onward onward_as
+  try_started td m p r s = rw (r.3, try_onward net proposer td p r.0 r.1 r.2, start_redundant net proposer (with_end td) p s)
+
+  -- where nothing is to be started the shares are combined, or it waits
+  pub try_rest : (td : ThresholdDecrypt) (p : Tape) (n : ℕ) → n ≡ count_shares td.shares → (combines_now td n && not td.had_input) ≡ false
+      → try_output net proposer td p ≡ cond (combines_now td n) (combine (marked td (combines_now td n)) p) (ends (going None) (marked td (combines_now td n)) p)
+  try_rest td p n k e = go _ refl
+    where
+      go : (x : Bool) → combines_now td n ≡ x → try_output net proposer td p ≡ cond x (combine (marked td (combines_now td n)) p) (ends (going None) (marked td (combines_now td n)) p)
+      go true c = try_started td (marked td (combines_now td n)) p (ready td n k c) (not-false _ (sym (ap (λ x. x && not td.had_input) c) ∙ e))
+      go false c = try_waits td p n k c

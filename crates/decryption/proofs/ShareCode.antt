@@ -6,6 +6,7 @@ use Rattle.steps.specs.Answers.{Tape, asked, ask_about}
 use Rattle.std.specs.List.{count_by}
 use Rattle.std.proofs.lemmas.List.{drop_all}
 use Rattle.std.proofs.lemmas.List.Sums.{sum_by-cons}
+use Rattle.steps.specs.declared.kinds.Failure.{Failure}
 use Rattle.steps.specs.declared.kinds.Stop.{Stop}
 use Rattle.steps.specs.declared.step.Writer.{Writer}
 use Rattle.steps.specs.Steps.{Out}
@@ -57,7 +58,7 @@ module _ (i : ℕ) (td : ThresholdDecrypt) (p : Tape) (h : i < 16) where
     pub remove_goes : left s (Ok tt) q w ≡ leaves o (check_share i td p) → leaves (out_of w) (remove_from (16 - (i + 1)) (i + 1) s q) ≡ leaves o (remove_from (16 - i) i td p)
     remove_goes e = rw remove_step (onward_ok _ _ _ _ w o tt e _ refl)
 
-    pub remove_stops : (f : Stop) → left s (Err f) q w ≡ leaves o (check_share i td p) → left s (Err f) q w ≡ leaves o (remove_from (16 - i) i td p)
+    pub remove_stops : (f : Stop Failure) → left s (Err f) q w ≡ leaves o (check_share i td p) → left s (Err f) q w ≡ leaves o (remove_from (16 - i) i td p)
     remove_stops f e = rw remove_step (onward_err _ _ _ _ w o f e)
 
 pub remove_done : (i : ℕ) (td : ThresholdDecrypt) (p : Tape) → 16 ≤ i → remove_from (16 - i) i td p ≡ ends (going tt) td p

@@ -2,6 +2,7 @@
 use Rattle.std.proofs.Common.{ℕ, suc, ◌+◌, ◌-◌, ◌<◌, arith, ◌≡◌, refl, sym, ap, ◌∙◌, List, Bool, true, false, length, get_or, set, get_or-set_same, get_or-set_other, eqb, ltb, eqb-true, ltb-true, ltb-false, Ok, Err}
 use Rattle.std.proofs.Math.Seq.{set_out}
 use Rattle.std.proofs.lemmas.Bool.{eqb-false}
+use Rattle.steps.specs.declared.kinds.Failure.{Failure}
 use Rattle.steps.specs.declared.kinds.Stop.{Stop}
 use Rattle.steps.specs.declared.step.Writer.{Writer}
 use Rattle.steps.specs.Written.{out_of, left}
@@ -55,7 +56,7 @@ module _ (net : NetworkInfo) (strategy : SubsetHandlingStrategy) (encrypted : Bo
   abbrev rest : Unit {0} → List ℕ → Tape → Run (List ℕ) (Unit {0})
   rest _ w t = handle_from net strategy encrypted (m - (i + 1)) (i + 1) w t
 
-  each_turn : i < m → (p value : ℕ) → p ≡ contributor net.num_nodes w i → value ≡ get_or w (value_at net.num_nodes p) 0
+  pub each_turn : i < m → (p value : ℕ) → p ≡ contributor net.num_nodes w i → value ≡ get_or w (value_at net.num_nodes p) 0
       → handle_from net strategy encrypted (m - i) i w t ≡ onward (handle_contribution net strategy encrypted p value w t) rest
   unfolding handle_from
   each_turn h p value who what =
@@ -67,7 +68,7 @@ module _ (net : NetworkInfo) (strategy : SubsetHandlingStrategy) (encrypted : Bo
         → leaves (out_of x) (handle_from net strategy encrypted (m - (i + 1)) (i + 1) s q) ≡ leaves o (handle_from net strategy encrypted (m - i) i w t)
     each_goes e = onward_ok s q _ rest x o tt e _ refl ∙ ap (leaves o) (sym (each_turn h p value who what))
 
-    pub each_stops : (f : Stop) → left {A = Unit {0}} s (Err f) q x ≡ leaves o (handle_contribution net strategy encrypted p value w t)
+    pub each_stops : (f : Stop Failure) → left {A = Unit {0}} s (Err f) q x ≡ leaves o (handle_contribution net strategy encrypted p value w t)
         → left {A = Unit {0}} s (Err f) q x ≡ leaves o (handle_from net strategy encrypted (m - i) i w t)
     each_stops f e = onward_err s q _ rest x o f e ∙ ap (leaves o) (sym (each_turn h p value who what))
 

@@ -1,6 +1,7 @@
 -- Calls of a decryption entry: what the code leaves. Assumes nothing.
 use Rattle.std.proofs.Common.{ℕ, ◌≡◌, refl, sym, ap, ◌∙◌, List, [], true, Option, Result, get_or}
 use Rattle.network.specs.declared.network_info.NetworkInfo.{NetworkInfo}
+use Rattle.steps.specs.declared.kinds.Failure.{Failure}
 use Rattle.steps.specs.declared.kinds.Stop.{Stop}
 use Rattle.steps.specs.declared.step.Writer.{Writer}
 use Rattle.steps.specs.Answers.{Tape}
@@ -32,8 +33,8 @@ module _ (net : NetworkInfo) (p : ℕ) (w : List ℕ) where
 
   -- an entry that is called, and stored after it
   pub entry_called : (call : ThresholdDecrypt → Tape → Run ThresholdDecrypt (Option ℕ)) (t : Tape) → asks (get_or w (decryption_at net.num_nodes p) 0) ≡ true
-      → (td : ThresholdDecrypt) (called : Result (Option ℕ) Stop) (q : Tape) (x : Writer) (o : Out) → left td called q x ≡ leaves o (call (load_entry net.num_nodes w p) t)
-      → (after : List ℕ) (result : Result (Unit {0}) Stop) → left_reading after result q ≡ process_decryption net p w (ends (verdict_of called) td q)
+      → (td : ThresholdDecrypt) (called : Result (Option ℕ) (Stop Failure)) (q : Tape) (x : Writer) (o : Out) → left td called q x ≡ leaves o (call (load_entry net.num_nodes w p) t)
+      → (after : List ℕ) (result : Result (Unit {0}) (Stop Failure)) → left_reading after result q ≡ process_decryption net p w (ends (verdict_of called) td q)
       → left after result q x ≡ leaves o (call_entry net p call w t)
   unfolding call_entry put_all
   entry_called call t a td called q x o e after result k =

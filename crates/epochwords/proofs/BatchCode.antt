@@ -1,16 +1,22 @@
 -- Laws for the code that hands out a batch: its tests and loops, case by case. Assumes nothing.
-use Rattle.std.proofs.Common.{ℕ, suc, ◌+◌, ◌-◌, ◌≤◌, ◌<◌, ◌≡◌, refl, sym, ◌∙◌, List, ◌∷◌, Bool, true, false, cond, ◌&&◌, not, arith}
+use Rattle.std.proofs.Common.{ℕ, suc, ◌+◌, ◌-◌, ◌≤◌, ◌<◌, ◌≡◌, refl, sym, ◌∙◌, List, ◌∷◌, Bool, true, false, cond, ◌&&◌, not, arith, length, mul-le-mul_right, suc-mul}
 use lib.Count.{ones}
-use Rattle.steps.specs.Numbers.{batch_output, entry_output}
+use Rattle.steps.specs.Numbers.{node_limit, batch_output, entry_output}
 use Rattle.steps.specs.Answers.{Tape}
 use Rattle.steps.specs.Steps.{Out, put_entry, put_all, output}
 use Rattle.steps.specs.Runs.{going, ends, before, onward, leaves}
 use Rattle.steps.specs.Bits.{has_bit, count_bits}
 use Rattle.steps.proofs.RunLaws.{leaves_before}
 use Rattle.steps.proofs.AfterRun.{after_out}
-use Rattle.epochwords.specs.Words.{is_accepted, is_settled, decryption_in, plaintext_in}
+use Rattle.subset.specs.Words.{field_at}
+use Rattle.epochwords.specs.Shape.{Records}
+use Rattle.epochwords.specs.Words.{is_accepted, is_settled, decryption_in, plaintext_in, plaintext_field}
 use Rattle.epochwords.specs.Batch.{decrypted_from, read_at, read_from, entries_from}
 use Rattle.epochwords.proofs.Readable.{entries_ones}
+
+-- p's record is inside
+pub record_here : (size n p : ℕ) (w : List ℕ) → Records size n w → p < n → (p < node_limit) × (field_at size p plaintext_field < length w)
+record_here size n p w h l = (omega (arith, h.few), omega (arith, h.fields, h.long, mul-le-mul_right size l, suc-mul p size))
 
 module _ (size n p : ℕ) (w : List ℕ) where
   -- READY: one proposer more, who is awaited or not

@@ -126,6 +126,25 @@ pub fn numbers_in(line: &[u8]) -> NumbersIn<'_>
     NumbersIn { rest: line }
 }
 
+// Fills the words with the numbers of a line, as many as they hold, and answers how many of them ended before the line did: one that its end
+// cuts off is among the words, but not in the count.
+pub fn numbers(line: &[u8], words: &mut [u64]) -> usize
+    ensures most { result ≤ length words.old }
+    ensures length { length words.new ≡ length words.old }
+{
+    let mut numbers = numbers_in(line);
+    for (ended, word) in words.iter_mut().enumerate() {
+        let Some(number) = numbers.next() else {
+            return ended;
+        };
+        *word = number;
+        if numbers.rest.is_empty() {
+            return ended;
+        }
+    }
+    words.len()
+}
+
 // The numbers of a line, at most so many.
 pub fn read_numbers(alloc: Global, line: &[u8], most: usize) -> Result<Vec<u64>, AllocError>
     ensures { IfOk result (λ ns. vec_len ns ≤ most) }
@@ -187,6 +206,24 @@ mod tests {
             [12, 0, 1_844_674_407_370_955_161].as_slice()
         );
         assert_eq!(rt; first_of::<3>(&two).as_slice(), [12, 0, 0].as_slice());
+        Ok(())
+    }
+
+    #[test]
+    fn fills_words(rt: HostRuntime) -> Result<(), Fail> {
+        // The words and the count that the five 0s become.
+        let filled = |line: &[u8]| {
+            let mut words = [0; 5];
+            let ended = numbers(line, &mut words[1..4]);
+            (words, ended)
+        };
+        assert_eq!(rt; filled(b"m 12 0\n"), ([0, 12, 0, 0, 0], 2));
+        assert_eq!(rt; filled(b"m 12 0 x7"), ([0, 12, 0, 7, 0], 2));
+        assert_eq!(rt; filled(b"m 12 7"), ([0, 12, 7, 0, 0], 1));
+        assert_eq!(rt; filled(b"1 2 3 4 5\n"), ([0, 1, 2, 3, 0], 3));
+        assert_eq!(rt; filled(b"1 2 3 4"), ([0, 1, 2, 3, 0], 3));
+        assert_eq!(rt; filled(b""), ([0; 5], 0));
+        assert_eq!(rt; numbers(b"1 2\n", &mut []), 0);
         Ok(())
     }
 

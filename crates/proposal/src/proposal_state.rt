@@ -1,41 +1,42 @@
 // A proposal, after proposal_state.rs. Each step takes the old state and hands back the new one. `error` is the failure that the caller
-// gives the error of an instance.
+// gives the error of an instance, of a type of the caller's; its kinds may be any numbers, too.
 ghost use Rattle.std.specs.Prelude.{◌≡◌, true};
-ghost use Rattle.steps.specs.Kinds.{answer_number, failure_number};
-ghost use Rattle.steps.specs.Written.{left, out_of, same_table};
+ghost use Rattle.steps.specs.Written.{left_as, out_of, same_table};
 ghost use Rattle.steps.specs.Runs.{leaves};
 ghost use Rattle.proposal.specs.declared.ProposalState.{ProposalState};
 ghost use Rattle.proposal.specs.Proposal.{received, accepted, complete, asks_agreement, asks_broadcast, after_agreement, instance_answer, after_value, handle_agreement, handle_broadcast};
 ghost use Rattle.proposal.specs.Outcomes.{transition, transition_of};
 
 use crate::ProposalState;
-use steps::kinds::{AnswerKind, Failure, Stop};
+use steps::kinds::{AnswerKind, Failure, Numbered, Stop};
 use steps::reader::{Content, Reader};
 use steps::step::Writer;
 
 // What a step of a proposal comes to. Its state is kept beside a refusal or a failure too, so that it is no part of the result.
 #[derive(Clone, Copy)]
-pub struct Transition {
+pub struct Transition<E = Failure> {
     pub state: ProposalState,
     // The value that it outputs, if it does.
-    pub outcome: Result<Option<u64>, Stop>,
+    pub outcome: Result<Option<u64>, Stop<E>>,
 }
 
 // `convert_bc` and `convert_ba`: the answer of an instance, and its last output. `content` stands beside `kind`, since the two public callers
 // promise for every kind that they read the parts as their own instance's.
-fn instance_answer(
-    error: Failure,
+fn instance_answer<E: Numbered, K: Numbered>(
+    error: E,
     proposer: usize,
-    kind: AnswerKind,
+    kind: K,
     content: Content,
     reader: &mut Reader,
     writer: &mut Writer,
-) -> Result<Option<u64>, Stop>
-    ensures run { (s : ProposalState) → left s result reader.new writer.new
-        ≡ leaves (out_of writer.old) (instance_answer (failure_number error) proposer (answer_number kind) content s reader.old) }
+) -> Result<Option<u64>, Stop<E>>
+    ensures run { (s : ProposalState) → left_as E.number s result reader.new writer.new
+        ≡ leaves (out_of writer.old) (instance_answer (E.number error) proposer (K.number kind) content s reader.old) }
     ensures table { same_table writer.old writer.new }
 {
-    let (a, _) = reader.ask_about(kind, proposer)?;
+    let Ok((a, _)) = reader.ask_about(kind, proposer) else {
+        return Err(Stop::NotNext);
+    };
     if a == 0 {
         return Err(Stop::Failed(error));
     }
@@ -90,7 +91,7 @@ impl ProposalState {
     }
 
     // The step to this state.
-    fn transition(self, outcome: Result<Option<u64>, Stop>) -> Transition
+    fn transition<E>(self, outcome: Result<Option<u64>, Stop<E>>) -> Transition<E>
         ensures { result ≡ transition self outcome }
     {
         Transition {
@@ -101,7 +102,7 @@ impl ProposalState {
 
     // The agreement's output, if it had one, is the decision.
     #[tactic(auto, unfolding(crate::specs::Proposal::after_agreement))]
-    fn after_agreement(self, output: Option<u64>) -> Transition
+    fn after_agreement<E>(self, output: Option<u64>) -> Transition<E>
         ensures { result ≡ transition_of (after_agreement self output) }
     {
         match (self, output) {
@@ -119,16 +120,16 @@ impl ProposalState {
     // Asks the agreement instance, and updates the state according to the outcome. Kind `ProposeFalse` is a vote for rejecting the
     // proposal (`vote_false`).
     #[tactic(auto, unfolding(crate::specs::Proposal::handle_agreement, steps::specs::Steps::put_all))]
-    pub fn handle_agreement(
+    pub fn handle_agreement<E: Numbered, K: Numbered>(
         self,
-        error: Failure,
+        error: E,
         proposer: usize,
-        kind: AnswerKind,
+        kind: K,
         reader: &mut Reader,
         writer: &mut Writer,
-    ) -> Transition
-        ensures run { left result.state result.outcome reader.new writer.new
-            ≡ leaves (out_of writer.old) (handle_agreement (failure_number error) proposer (answer_number kind) self reader.old) }
+    ) -> Transition<E>
+        ensures run { left_as E.number result.state result.outcome reader.new writer.new
+            ≡ leaves (out_of writer.old) (handle_agreement (E.number error) proposer (K.number kind) self reader.old) }
         ensures table { same_table writer.old writer.new }
     {
         if !self.asks_agreement() {
@@ -142,17 +143,17 @@ impl ProposalState {
 
     // The broadcast's output, if it had one, is the value. While the agreement is undecided it earns a vote 1.
     #[tactic(auto, unfolding(crate::specs::Proposal::after_value, crate::specs::Proposal::after_broadcast, crate::specs::Proposal::vote_true, crate::specs::Proposal::asks_agreement, crate::specs::Proposal::asks_broadcast, crate::specs::Proposal::handle_agreement, steps::specs::Steps::put_all))]
-    fn after_value(
+    fn after_value<E: Numbered>(
         self,
-        error: Failure,
+        error: E,
         proposer: usize,
         output: Option<u64>,
         reader: &mut Reader,
         writer: &mut Writer,
-    ) -> Transition
+    ) -> Transition<E>
         requires { asks_broadcast self ≡ true }
-        ensures run { left result.state result.outcome reader.new writer.new
-            ≡ leaves (out_of writer.old) (after_value (failure_number error) proposer self output reader.old) }
+        ensures run { left_as E.number result.state result.outcome reader.new writer.new
+            ≡ leaves (out_of writer.old) (after_value (E.number error) proposer self output reader.old) }
         ensures table { same_table writer.old writer.new }
     {
         match (self, output) {
@@ -169,16 +170,16 @@ impl ProposalState {
 
     // Asks the broadcast instance, and updates the state according to the outcome.
     #[tactic(auto, unfolding(crate::specs::Proposal::handle_broadcast, steps::specs::Steps::put_all))]
-    pub fn handle_broadcast(
+    pub fn handle_broadcast<E: Numbered, K: Numbered>(
         self,
-        error: Failure,
+        error: E,
         proposer: usize,
-        kind: AnswerKind,
+        kind: K,
         reader: &mut Reader,
         writer: &mut Writer,
-    ) -> Transition
-        ensures run { left result.state result.outcome reader.new writer.new
-            ≡ leaves (out_of writer.old) (handle_broadcast (failure_number error) proposer (answer_number kind) self reader.old) }
+    ) -> Transition<E>
+        ensures run { left_as E.number result.state result.outcome reader.new writer.new
+            ≡ leaves (out_of writer.old) (handle_broadcast (E.number error) proposer (K.number kind) self reader.old) }
         ensures table { same_table writer.old writer.new }
     {
         if !self.asks_broadcast() {

@@ -13,18 +13,18 @@
 // many as the state has words, then words that it did not touch: eight more are lent), q EPOCH INPUT RECEIVED FAULTS DIGEST SCRATCH.
 #![tactic(auto)]
 
-ghost use Rattle.std.specs.Prelude.{◌≤◌, vec_len};
+ghost use Rattle.std.specs.Prelude.{◌≤◌};
 ghost use Rattle.std.specs.Io.{StartsWith};
 
-use lines::{OtherLine, first_of, kind_and_numbers, reply_line};
-use std::alloc::{AllocError, Global};
+use lines::{OtherLine, first_of, kind_of, numbers, reply_line};
+use std::alloc::Global;
 use std::io::{self, BufRead, BufReader, BufWriter, Read, Write};
 use steps::numbers::SUCCESS;
 
 const MOST_LINES: usize = 65_536;
 
 // Of a line with its newline.
-const MOST_BYTES: u64 = 65_536;
+const MOST_BYTES: usize = 65_536;
 
 const MOST_NUMBERS: usize = 4_112;
 
@@ -32,6 +32,12 @@ const MOST_RECORDS: usize = 1_553;
 
 // Of a state.
 const MOST_WORDS: usize = 6_416;
+
+// Of scratch, which has eight words more than the state.
+const MOST_SCRATCH: usize = 6_424;
+
+// Of a step table.
+const MOST_STEP: usize = 6_212;
 
 // The words that a call is lent, but for the answers' and those of a state that there is.
 const FILL: u64 = 0x1234_5678_9abc_def0;
@@ -64,15 +70,23 @@ impl TryFrom<u8> for Kind {
     }
 }
 
-// The length of a state with these numbers; any other where they are out of range.
-fn state_length(nodes: u64, ahead: u64) -> usize
-    ensures { result ≤ 6416 }
-{
-    match (nodes, ahead) {
-        (1..=16, 0..=15) => {
-            state::range::state_length(nodes as usize, ahead as usize).min(MOST_WORDS)
-        }
-        _ => 16,
+// How many words a state has.
+#[derive(Clone, Copy, Debug)]
+struct Size {
+    words: usize,
+    ghost within: { words ≤ 6416 },
+}
+
+impl Size {
+    // That of a state with these numbers; any other where they are out of range.
+    fn of(nodes: u64, ahead: u64) -> Self {
+        let words = match (nodes, ahead) {
+            (1..=16, 0..=15) => {
+                state::range::state_length(nodes as usize, ahead as usize).min(MOST_WORDS)
+            }
+            _ => 16,
+        };
+        Size { words }
     }
 }
 
@@ -102,32 +116,6 @@ fn written(step: &[u64]) -> &[u64]
     }
 }
 
-// What a propose or a message is lent besides the state and the answers.
-#[derive(Drop)]
-struct Lent {
-    scratch: Vec<u64>,
-    step: Vec<u64>,
-}
-
-impl Lent {
-    // For a call on this state, with a step table of so many records.
-    fn new(alloc: Global, state: &[u64], records: u64) -> Result<Self, AllocError> {
-        let scratch = vec![in alloc; FILL; state.len() + 8]?;
-        let step = vec![in alloc; FILL; step_length(records)]?;
-        Ok(Lent { scratch, step })
-    }
-
-    // How many words of scratch are as a call on a state of this size must leave them.
-    fn right(&self, size: usize) -> usize {
-        let wanted = |i: usize| if i < size { 0 } else { FILL };
-        self.scratch
-            .iter()
-            .enumerate()
-            .position(|(i, word)| *word != wanted(i))
-            .unwrap_or(self.scratch.len())
-    }
-}
-
 // What a query gives. One that is turned down gives what it was lent.
 fn asked<F: FnOnce(&mut u64) -> u64>(query: F) -> u64
     requires { F.IsAlwaysCallable query }
@@ -137,22 +125,61 @@ fn asked<F: FnOnce(&mut u64) -> u64>(query: F) -> u64
     word
 }
 
-// The state that the calls so far have left, empty before the first create, and where they are written.
+// Makes a call on the first words of the state, scratch and the step table.
+fn called<F: FnOnce(&mut [u64], &mut [u64], &mut [u64]) -> u64>(
+    state: &mut [u64; MOST_WORDS],
+    scratch: &mut [u64; MOST_SCRATCH],
+    step: &mut [u64; MOST_STEP],
+    size: Size,
+    length: usize,
+    call: F,
+) -> u64
+    requires callable { F.IsAlwaysCallable call }
+    requires length { length ≤ 6212 }
+{
+    call(
+        &mut state[..size.words],
+        &mut scratch[..size.words + 8],
+        &mut step[..length],
+    )
+}
+
+// The state that the calls so far have left, of no words before the first create, what a call is lent besides, and where the calls are written.
+// These are arrays, so that memory is taken before the first line alone: with a `Vec` each call would be a new way to run out of it.
 #[derive(Drop)]
 struct Replay<'a, W> {
-    alloc: Global,
     out: &'a mut W,
-    state: Vec<u64>,
-    ghost size: { vec_len state ≤ 6416 },
+    size: Size,
+    state: [u64; MOST_WORDS],
+    scratch: [u64; MOST_SCRATCH],
+    step: [u64; MOST_STEP],
 }
 
 impl<W: Write> Replay<'_, W> {
+    // Fills what a call with a step table of so many words is lent.
+    fn fill(&mut self, step: usize)
+        requires { step ≤ 6212 }
+    {
+        self.scratch[..self.size.words + 8].fill(FILL);
+        self.step[..step].fill(FILL);
+    }
+
+    // How many words of scratch are as a call must leave them.
+    fn right(&self) -> usize {
+        let wanted = |i: usize| if i < self.size.words { 0 } else { FILL };
+        self.scratch[..self.size.words + 8]
+            .iter()
+            .enumerate()
+            .position(|(i, word)| *word != wanted(i))
+            .unwrap_or(self.size.words + 8)
+    }
+
     // What a call leaves besides its step.
     fn show_state(&mut self, right: usize) -> io::Result<()> {
-        if self.state.is_empty() {
+        if self.size.words == 0 {
             return Ok(());
         }
-        let state = self.state.as_slice();
+        let state = &self.state[..self.size.words];
         let epoch = asked(|word| engine::hb_current_epoch(state, word));
         let input = asked(|word| engine::hb_has_input(state, word));
         let received = asked(|word| engine::hb_received_proposals(state, word));
@@ -164,20 +191,55 @@ impl<W: Write> Replay<'_, W> {
         )
     }
 
-    fn show_call(&mut self, reply: u64, lent: &Lent) -> io::Result<()> {
-        reply_line(self.out, reply, written(&lent.step))?;
-        let right = lent.right(self.state.len());
+    // Makes a call with a step table of so many records, and shows it.
+    fn make<F: FnOnce(&mut [u64], &mut [u64], &mut [u64]) -> u64>(
+        &mut self,
+        records: u64,
+        call: F,
+    ) -> io::Result<()>
+        requires { F.IsAlwaysCallable call }
+    {
+        let step = step_length(records);
+        self.fill(step);
+        let size = self.size;
+        let reply = called(
+            &mut self.state,
+            &mut self.scratch,
+            &mut self.step,
+            size,
+            step,
+            call,
+        );
+        self.show_call(reply, step)
+    }
+
+    // A call with a step table of so many words.
+    fn show_call(&mut self, reply: u64, step: usize) -> io::Result<()>
+        requires { step ≤ 6212 }
+    {
+        reply_line(self.out, reply, written(&self.step[..step]))?;
+        let right = self.right();
         self.show_state(right)
     }
 
     fn create(&mut self, given: [u64; 10]) -> io::Result<()> {
         let [n, f, ahead, own, key, strategy, start, schedule, a, b] = given;
-        let mut state = vec![in self.alloc; FILL; state_length(n, ahead)]?;
+        let size = Size::of(n, ahead);
         let reply = engine::hb_create(
-            n, f, ahead, own, key, strategy, start, schedule, a, b, &mut state,
+            n,
+            f,
+            ahead,
+            own,
+            key,
+            strategy,
+            start,
+            schedule,
+            a,
+            b,
+            &mut self.state[..size.words],
         );
         if reply == SUCCESS {
-            self.state = state;
+            self.size = size;
         }
         reply_line(self.out, reply, &[])?;
         self.show_state(0)
@@ -186,17 +248,17 @@ impl<W: Write> Replay<'_, W> {
     // A line that lacks numbers makes no call, and shows what one would be lent. `FILL` is shown in the place of its reply as well, here and in
     // `skip`: the None of an Option would have no other use.
     fn make_none(&mut self) -> io::Result<()> {
-        let lent = Lent::new(self.alloc, &self.state, 0)?;
-        self.show_call(FILL, &lent)
+        self.fill(0);
+        self.show_call(FILL, 0)
     }
 
     fn propose(&mut self, given: &[u64]) -> io::Result<()> {
         let [records, answers @ ..] = given else {
             return self.make_none();
         };
-        let mut lent = Lent::new(self.alloc, &self.state, *records)?;
-        let reply = engine::hb_propose(&mut self.state, &mut lent.scratch, answers, &mut lent.step);
-        self.show_call(reply, &lent)
+        self.make(*records, |state, scratch, step| {
+            engine::hb_propose(state, scratch, answers, step)
+        })
     }
 
     fn message(&mut self, given: &[u64]) -> io::Result<()> {
@@ -212,54 +274,53 @@ impl<W: Write> Replay<'_, W> {
         else {
             return self.make_none();
         };
-        let mut lent = Lent::new(self.alloc, &self.state, *records)?;
-        let reply = engine::hb_message(
-            *sender,
-            *epoch,
-            *content,
-            *proposer,
-            *item,
-            &mut self.state,
-            &mut lent.scratch,
-            answers,
-            &mut lent.step,
-        );
-        self.show_call(reply, &lent)
+        self.make(*records, |state, scratch, step| {
+            engine::hb_message(
+                *sender, *epoch, *content, *proposer, *item, state, scratch, answers, step,
+            )
+        })
     }
 
     fn skip(&mut self, given: &[u64]) -> io::Result<()> {
         let reply = match given.first() {
-            Some(target) => engine::hb_skip(*target, &mut self.state),
+            Some(target) => engine::hb_skip(*target, &mut self.state[..self.size.words]),
             None => FILL,
         };
         reply_line(self.out, reply, &[])?;
         self.show_state(0)
     }
 
+    // A create alone is given the number that its line's end cuts off.
     fn line(&mut self, text: &[u8]) -> io::Result<()> {
-        let Some((kind, given)) = kind_and_numbers(self.alloc, text, Kind::Create, MOST_NUMBERS)?
-        else {
+        let Some(kind) = kind_of(text) else {
             return Ok(());
         };
+        let mut given = [0; MOST_NUMBERS];
+        let ended = numbers(text, &mut given);
         match kind {
             Kind::Create => self.create(first_of(&given)),
-            Kind::Propose => self.propose(&given),
-            Kind::Message => self.message(&given),
-            Kind::Skip => self.skip(&given),
+            Kind::Propose => self.propose(&given[..ended]),
+            Kind::Message => self.message(&given[..ended]),
+            Kind::Skip => self.skip(&given[..ended]),
         }
     }
 }
 
 // The lines of the input, in order.
 fn run<R: BufRead, W: Write>(alloc: Global, input: &mut R, out: &mut W) -> io::Result<()> {
-    let state = Vec::new(alloc);
-    let mut replay = Replay { alloc, out, state };
-    let mut text = Vec::new(alloc);
+    let mut text = Vec::with_capacity(alloc, MOST_BYTES)?;
+    let mut replay = Replay {
+        out,
+        size: Size { words: 0 },
+        state: [0; MOST_WORDS],
+        scratch: [0; MOST_SCRATCH],
+        step: [0; MOST_STEP],
+    };
     for _ in 0..MOST_LINES {
         text.clear();
         if input
             .by_ref()
-            .take(MOST_BYTES)
+            .take(MOST_BYTES as u64)
             .read_until(b'\n', &mut text)?
             == 0
         {

@@ -1,10 +1,10 @@
 -- Laws for the code that checks a state's ranges, and what a state in range gives the code below. Assumes nothing.
-use Rattle.std.proofs.Common.{ℕ, suc, ◌+◌, ◌-◌, ◌*◌, ◌≤◌, ◌<◌, ◌≡◌, refl, sym, ◌∙◌, List, [], ◌∷◌, Bool, true, false, ◌&&◌, ◌||◌, arith, add-mul, length, get_or, take, drop, bit_or, eqb, leb, ltb, leb-true, ltb-true, eq-eqb}
+use Rattle.std.proofs.Common.{ℕ, suc, ◌+◌, ◌-◌, ◌*◌, ◌≤◌, ◌<◌, ◌≡◌, refl, sym, ◌∙◌, List, [], ◌∷◌, Bool, true, false, ◌&&◌, ◌||◌, arith, add-mul, length, get_or, take, drop, length-drop, length-take-le, bit_or, eqb, leb, ltb, leb-true, ltb-true, eq-eqb}
 use Rattle.std.proofs.Math.Bool.{and-true, and_assoc}
 use Rattle.std.proofs.lemmas.Bool.{false_from_ne_true, and_parts}
 use Rattle.steps.specs.Numbers.{node_limit, ahead_limit}
 use Rattle.subset.specs.Words.{epoch_length}
-use Rattle.epochwords.specs.Shape.{Listed}
+use Rattle.epochwords.specs.Shape.{EpochWords, Listed}
 use Rattle.epochwords.specs.Words.{all_from, epoch_in_range}
 use Rattle.epochwords.proofs.RangeCode.{none_below, join_below}
 use Rattle.epochwords.proofs.LimitsOfWords.{ok_listed}
@@ -79,6 +79,11 @@ module _ (w : List ℕ) (ok : Bool) (start places place l : ℕ) where
   epochs_over h =
       let e : places - place ≡ 0 = omega arith in
       rw e (sym (and-true ok))
+
+-- a part of the state as long as an epoch is an epoch's words
+pub part_epoch : (w : List ℕ) → StateWords w → (at l end : ℕ) → l ≡ epoch_length (nodes w) → end ≡ at + l → end ≤ length w → EpochWords (nodes w) (take (end - at) (drop at w))
+part_epoch w h at l end z t f =
+    record { few = h.few; long = length-take-le (end - at) (drop at w) (rw (length-drop at w) (omega arith)) ∙ omega arith }
 
 -- THE STATE
 module _ (w : List ℕ) where

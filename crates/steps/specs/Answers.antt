@@ -1,5 +1,6 @@
 -- The answer table as the chain of its records, and what a reader of it is told.
 use Rattle.std.specs.Prelude.{ℕ, zero, suc, ◌+◌, ◌-◌, ◌*◌, ◌/◌, List, [], ◌∷◌, Bool, true, false, cond, ◌&&◌, length, get_or, ltb, eqb, Option, Some, None}
+use Rattle.steps.specs.declared.reader.Cursor.{Cursor}
 use Rattle.steps.specs.declared.reader.Record.{Record}
 use Rattle.steps.specs.Verdicts.{Verdict, going, refused, number_of}
 
@@ -48,6 +49,10 @@ tape_of t = tape_at t (get_or t 0 0)
 -- the index of the table's last record, 0 where there is none
 abbrev pub last_index : List ℕ → ℕ
 last_index t = length t / 4 - 1
+
+-- the cursor at a place of the table
+abbrev pub cursor_at : List ℕ → ℕ → Cursor
+cursor_at t i = record { place = i; last = last_index t }
 
 -- the first record of a chain
 unfoldable pub first_record : List Rec → Option Record

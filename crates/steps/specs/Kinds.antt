@@ -58,8 +58,12 @@ failure_number failures.HandleSubsetMessage = handle_subset_message
 failure_number failures.Decryption = decryption
 failure_number failures.MultipleInputs = multiple_inputs
 
--- a result of the code: it goes on with its value, is refused with 8, or fails with the number of the Rust's error
-abbrev pub verdict_of : {A : Type 0} → Result A Stop → Verdict A
-verdict_of (Ok a) = going a
-verdict_of (Err NotNext) = refused
-verdict_of (Err (Failed f)) = failed (failure_number f)
+-- a result of the code: it goes on with its value, is refused with 8, or fails with the number of its failure
+abbrev pub verdict_as : {E A : Type 0} → (E → ℕ) → Result A (Stop E) → Verdict A
+verdict_as number (Ok a) = going a
+verdict_as number (Err NotNext) = refused
+verdict_as number (Err (Failed f)) = failed (number f)
+
+-- one that fails with the Rust's error
+abbrev pub verdict_of : {A : Type 0} → Result A (Stop Failure) → Verdict A
+verdict_of r = verdict_as failure_number r

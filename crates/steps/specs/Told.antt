@@ -3,6 +3,7 @@ use Rattle.std.specs.Prelude.{ℕ, Bool, cond, Result, Ok, Err, drop}
 use Rattle.steps.specs.Verdicts.{Verdict}
 use Rattle.steps.specs.Kinds.{verdict_of as verdict_in}
 use Rattle.steps.specs.declared.kinds.Stop.{Stop}
+use Rattle.steps.specs.declared.kinds.Failure.{Failure}
 use Rattle.steps.specs.declared.kinds.Stop.TheVariants.{NotNext}
 use Rattle.steps.specs.declared.reader.Record.{Record}
 use Rattle.steps.specs.Answers.{Tape, tape, Asked, verdict_of}
@@ -12,7 +13,7 @@ pub record Told : Type 0 where
   pub verdict : Verdict (ℕ × ℕ)
   pub tape : Tape
 
-abbrev pub told : Result (ℕ × ℕ) Stop → Tape → Told
+abbrev pub told : Result (ℕ × ℕ) (Stop Failure) → Tape → Told
 told r p = record { verdict = verdict_in r; tape = p }
 
 abbrev pub heard_in : Asked → Told

@@ -1,14 +1,14 @@
 // The answer reader: the records of the chain, one after the other. The reader is lent, and its place moves past what was read.
 ghost use Rattle.std.specs.Prelude.{◌≡◌, cond, ltb, Some, Ok, drop};
-ghost use Rattle.steps.specs.Answers.{chain, tape, tape_at, tape_of, first_record, is_end, ask, ask_about, last_index};
+ghost use Rattle.steps.specs.Answers.{chain, tape, tape_at, tape_of, first_record, is_end, ask, ask_about, last_index, cursor_at};
 ghost use Rattle.steps.specs.Steps.{put_all};
-ghost use Rattle.steps.specs.Kinds.{answer_number, message_number, fault_number};
+ghost use Rattle.steps.specs.Kinds.{message_number, fault_number};
 ghost use Rattle.steps.specs.Written.{out_of, same_table, left_stateless};
 ghost use Rattle.steps.specs.Told.{told, heard_in, taken};
 ghost use Rattle.steps.specs.Runs.{leaves};
 ghost use Rattle.steps.specs.Parts.{is_part, message_kind, fault_kind, part_entries, output_of, read_parts};
 
-use crate::kinds::{AnswerKind, FaultKind, MessageKind, Stop};
+use crate::kinds::{FaultKind, MessageKind, Numbered, Stop};
 use crate::numbers::{FAULT_PART, MESSAGE_PART, OUTPUT_PART};
 use crate::step::Writer;
 use std::marker::Model;
@@ -16,9 +16,9 @@ use std::marker::Model;
 // Where a reader stands in an answer table: the index of the record to be read next, and the index of the last record. 0 is the end, as a next is
 // in the table itself.
 #[derive(Clone, Copy, Debug)]
-struct Cursor {
-    place: usize,
-    last: usize,
+pub struct Cursor {
+    pub place: usize,
+    pub last: usize,
 }
 
 // A record of the answer table, with the place after it. Its kind is a number, as the host has written it.
@@ -31,7 +31,7 @@ struct Record {
 }
 
 // A reader of an answer table, lent to each layer. Clauses see the place that it has come to and the records from there on.
-#[derive(Drop)]
+#[derive(Clone, Drop)]
 pub struct Reader<'a> {
     answers: &'a [u64],
     cursor: Cursor,
@@ -102,9 +102,9 @@ impl Record {
         ensures table { same_table writer.old writer.new }
     {
         if self.kind == MESSAGE_PART {
-            writer.message(content.into(), proposer as u64, self.b);
+            writer.message(MessageKind::from(content), proposer as u64, self.b);
         } else if self.kind == FAULT_PART {
-            writer.fault(content.into(), self.a, self.b);
+            writer.fault(FaultKind::from(content), self.a, self.b);
         }
     }
 }
@@ -114,6 +114,14 @@ fn last_index(answers: &[u64]) -> usize
     ensures { result ≡ last_index answers.now }
 {
     (answers.len() / 4).saturating_sub(1)
+}
+
+// The cursor at a place of a table. That of a reader is the one at its place.
+pub fn cursor_at(answers: &[u64], place: usize) -> Cursor
+    ensures { result ≡ cursor_at answers.now place }
+{
+    let last = last_index(answers);
+    Cursor { place, last }
 }
 
 // The place after a record that stands at a place. A next that is not above its own record ends the chain.
@@ -148,10 +156,9 @@ impl<'a> Reader<'a> {
     pub fn at(answers: &'a [u64], place: usize) -> Self
         ensures { result ≡ tape_at answers.now place }
     {
-        let last = last_index(answers);
         Reader {
             answers,
-            cursor: Cursor { place, last },
+            cursor: cursor_at(answers, place),
         }
     }
 
@@ -205,25 +212,25 @@ impl<'a> Reader<'a> {
     }
 
     // The next answer, which has to be of this kind: its words a and b.
-    pub fn ask(&mut self, kind: AnswerKind) -> Result<(u64, u64), Stop>
-        ensures { told result self.new ≡ heard_in (ask self.old (answer_number kind)) }
+    pub fn ask<K: Numbered>(&mut self, kind: K) -> Result<(u64, u64), Stop>
+        ensures { told result self.new ≡ heard_in (ask self.old (K.number kind)) }
     {
         let Some(found) = self.peek() else {
             return Err(Stop::NotNext);
         };
-        self.take(found, found.kind == u64::from(kind))
+        self.take(found, found.kind == kind.number())
     }
 
     // The next answer, which has to be of this kind and about this node.
-    pub fn ask_about(&mut self, kind: AnswerKind, who: usize) -> Result<(u64, u64), Stop>
-        ensures { told result self.new ≡ heard_in (ask_about self.old (answer_number kind) who) }
+    pub fn ask_about<K: Numbered>(&mut self, kind: K, who: usize) -> Result<(u64, u64), Stop>
+        ensures { told result self.new ≡ heard_in (ask_about self.old (K.number kind) who) }
     {
         let Some(found) = self.peek() else {
             return Err(Stop::NotNext);
         };
         self.take(
             found,
-            (found.kind == u64::from(kind)) & (found.b == who as u64),
+            (found.kind == kind.number()) & (found.b == who as u64),
         )
     }
 

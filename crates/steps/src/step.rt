@@ -3,11 +3,10 @@
 // A call runs twice. The first run has no table and only counts; the second knows the counts, so that each record goes to its final
 // place at once and the last record of each chain has no next.
 ghost use Rattle.std.specs.Prelude.{◌≡◌, ◌≤◌, length, []};
-ghost use Rattle.steps.specs.Kinds.{message_number, fault_number, output_number};
 ghost use Rattle.steps.specs.Written.{out_of, same_table};
 ghost use Rattle.steps.specs.Steps.{out, chained, put_entry, put_at, advance, next_of, message, fault, output, counting, writing, records, first_of, put_header, Counted};
 
-use crate::kinds::{FaultKind, MessageKind, OutputKind};
+use crate::kinds::Numbered;
 use crate::numbers::COUNT_LIMIT;
 
 // The records of one list: the index of the one that is written next, and the index past the last.
@@ -134,24 +133,24 @@ impl Writer<'_> {
         }
     }
 
-    pub fn message(&mut self, kind: MessageKind, a: u64, b: u64)
-        ensures step { out_of self.new ≡ put_entry (out_of self.old) (message (message_number kind) a b) }
+    pub fn message<K: Numbered>(&mut self, kind: K, a: u64, b: u64)
+        ensures step { out_of self.new ≡ put_entry (out_of self.old) (message (K.number kind) a b) }
         ensures table { same_table self.old self.new }
     {
-        self.step.messages.put(self.words, u64::from(kind), a, b);
+        self.step.messages.put(self.words, kind.number(), a, b);
     }
 
-    pub fn fault(&mut self, kind: FaultKind, a: u64, b: u64)
-        ensures step { out_of self.new ≡ put_entry (out_of self.old) (fault (fault_number kind) a b) }
+    pub fn fault<K: Numbered>(&mut self, kind: K, a: u64, b: u64)
+        ensures step { out_of self.new ≡ put_entry (out_of self.old) (fault (K.number kind) a b) }
         ensures table { same_table self.old self.new }
     {
-        self.step.faults.put(self.words, u64::from(kind), a, b);
+        self.step.faults.put(self.words, kind.number(), a, b);
     }
 
-    pub fn output(&mut self, kind: OutputKind, a: u64, b: u64)
-        ensures step { out_of self.new ≡ put_entry (out_of self.old) (output (output_number kind) a b) }
+    pub fn output<K: Numbered>(&mut self, kind: K, a: u64, b: u64)
+        ensures step { out_of self.new ≡ put_entry (out_of self.old) (output (K.number kind) a b) }
         ensures table { same_table self.old self.new }
     {
-        self.step.outputs.put(self.words, u64::from(kind), a, b);
+        self.step.outputs.put(self.words, kind.number(), a, b);
     }
 }

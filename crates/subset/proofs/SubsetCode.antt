@@ -9,9 +9,9 @@ use Rattle.steps.specs.declared.reader.Content.TheVariants.{Broadcast, Agreement
 use Rattle.steps.specs.declared.step.Writer.{Writer}
 use Rattle.steps.specs.Answers.{Tape}
 use Rattle.steps.specs.Steps.{Out, put_all}
-use Rattle.steps.specs.Written.{out_of, left, left_reading}
+use Rattle.steps.specs.Written.{out_of, left_as, left_reading_as}
 use Rattle.steps.specs.Runs.{going, Run, ends, onward, onward_as, inside, Left, leaves}
-use Rattle.steps.proofs.LentRuns.{onward_ok, onward_err}
+use Rattle.steps.proofs.LentRuns.{onward_ok, onward_err_as}
 use Rattle.steps.proofs.RunsInParts.{leaves_inside}
 use Rattle.proposal.specs.declared.ProposalState.{ProposalState}
 use Rattle.proposal.specs.declared.proposal_state.Transition.{Transition}
@@ -22,10 +22,10 @@ use Rattle.subset.specs.Outcomes.{answer_at, message_kind}
 
 module _ (net : NetworkInfo) (error : ℕ) where
   -- ONE PROPOSAL, stored with its output
-  module _ (p : ℕ) (w v : List ℕ) (m : Transition) (y : Result (Unit {0}) Stop)
-      (stored : (error : ℕ) (tape : Tape) → left_reading v y tape ≡ at_proposal net error p w (left_reading m.state m.outcome tape))
+  module _ {E : Type 0} (number : E → ℕ) (p : ℕ) (w v : List ℕ) (m : Transition E) (y : Result (Unit {0}) (Stop E))
+      (stored : (error : ℕ) (tape : Tape) → left_reading_as number v y tape ≡ at_proposal net error p w (left_reading_as number m.state m.outcome tape))
       (q : Tape) (z : Writer) (o : Out) where
-    stores : (r : Run ProposalState (Option ℕ)) → left m.state m.outcome q z ≡ leaves o r → left v y q z ≡ leaves o (at_proposal net error p w r)
+    pub stores : (r : Run ProposalState (Option ℕ)) → left_as number m.state m.outcome q z ≡ leaves o r → left_as number v y q z ≡ leaves o (at_proposal net error p w r)
     unfolding at_proposal onward onward_as put_all
     stores r e = go m.outcome (stored error q) e
       where
@@ -35,18 +35,18 @@ module _ (net : NetworkInfo) (error : ℕ) where
         k : Option ℕ → List ℕ → Tape → Run (List ℕ) (Unit {0})
         k value w tape = ends (going tt) (contributed net.num_nodes w p value) tape
 
-        go : (x : Result (Option ℕ) Stop) → left_reading v y q ≡ at_proposal net error p w (left_reading m.state x q) → left m.state x q z ≡ leaves o r
-            → left v y q z ≡ leaves o (at_proposal net error p w r)
+        go : (x : Result (Option ℕ) (Stop E)) → left_reading_as number v y q ≡ at_proposal net error p w (left_reading_as number m.state x q) → left_as number m.state x q z ≡ leaves o r
+            → left_as number v y q z ≡ leaves o (at_proposal net error p w r)
         go (Ok a) h e = onward_ok (put m.state) q (inside put r) k z o a (leaves_inside put _ o r e) _ (ap (leaves (out_of z)) h)
-        go (Err NotNext) h e = ap (leaves (out_of z)) h ∙ onward_err (put m.state) q (inside put r) k z o NotNext (leaves_inside put _ o r e)
-        go (Err (Failed f)) h e = ap (leaves (out_of z)) h ∙ onward_err (put m.state) q (inside put r) k z o (Failed f) (leaves_inside put _ o r e)
+        go (Err NotNext) h e = ap (leaves (out_of z)) h ∙ onward_err_as (put m.state) q (inside put r) k number z o NotNext (leaves_inside put _ o r e)
+        go (Err (Failed f)) h e = ap (leaves (out_of z)) h ∙ onward_err_as (put m.state) q (inside put r) k number z o (Failed f) (leaves_inside put _ o r e)
 
     module _ (kind : ℕ) (t : Tape) (s : ProposalState) (loaded : s ≡ load_proposal net.num_nodes w p) where
-      pub broadcast_left : asks_broadcast s ≡ true → left m.state m.outcome q z ≡ leaves o (handle_broadcast error p kind s t) → left v y q z ≡ leaves o (broadcast_at net error kind p w t)
+      pub broadcast_left : asks_broadcast s ≡ true → left_as number m.state m.outcome q z ≡ leaves o (handle_broadcast error p kind s t) → left_as number v y q z ≡ leaves o (broadcast_at net error kind p w t)
       unfolding broadcast_at handle_broadcast
       broadcast_left a e = rw (rw loaded at a) (stores _ (rw (a, loaded) at e))
 
-      pub agreement_left : asks_agreement s ≡ true → left m.state m.outcome q z ≡ leaves o (handle_agreement error p kind s t) → left v y q z ≡ leaves o (agreement_at net error kind p w t)
+      pub agreement_left : asks_agreement s ≡ true → left_as number m.state m.outcome q z ≡ leaves o (handle_agreement error p kind s t) → left_as number v y q z ≡ leaves o (agreement_at net error kind p w t)
       unfolding agreement_at handle_agreement
       agreement_left a e = rw (rw loaded at a) (stores _ (rw (a, loaded) at e))
 

@@ -1,4 +1,5 @@
-// The subset over the words of one epoch, after subset.rs. `error` is the failure that the caller gives the error of an instance.
+// The subset over the words of one epoch, after subset.rs. `error` is the failure that the caller gives the error of an instance, of a type of
+// the caller's.
 //
 // `EpochWords` stands in each contract, and words, network, error, reader and writer are parameters one by one: the words are lent by `&mut`. A struct
 // over them was tried, and proves; but each function that is lent it then owes that the words are the same ones (as `same_table` says for the
@@ -6,8 +7,8 @@
 ghost use Rattle.std.specs.Prelude.{◌≡◌, ◌<◌, ℕ, count_ones};
 ghost use Rattle.network.specs.Network.{Network};
 ghost use Rattle.steps.specs.Answers.{Tape};
-ghost use Rattle.steps.specs.Kinds.{answer_number, failure_number};
-ghost use Rattle.steps.specs.Written.{left, left_reading, out_of, same_table};
+ghost use Rattle.steps.specs.Kinds.{answer_number};
+ghost use Rattle.steps.specs.Written.{left_as, left_reading_as, out_of, same_table};
 ghost use Rattle.steps.specs.Runs.{leaves};
 ghost use Rattle.subset.specs.Subset.{received_proposals, count_accepted, all_complete, at_proposal, vote_from, votes, try_output, propose, handle_message};
 ghost use Rattle.subset.specs.Words.{record_length};
@@ -18,7 +19,7 @@ use crate::words;
 use crate::words::{ACCEPTED_TAGS, DECIDED_AT, INCOMPLETE_TAGS, RECEIVED_TAGS, RECORD_FIELDS};
 use network::network_info::NetworkInfo;
 use proposal::proposal_state::Transition;
-use steps::kinds::{AnswerKind, Failure, Stop};
+use steps::kinds::{AnswerKind, Numbered, Stop};
 use steps::reader::{Content, Reader};
 use steps::step::Writer;
 
@@ -58,15 +59,15 @@ fn all_complete(epoch: &[u64], n: usize) -> bool
 
 // Stores the state that a proposal has come to, and adds its output to the list of contributions (`convert_step`).
 #[tactic(auto, unfolding(crate::specs::Subset::at_proposal, crate::specs::Subset::contributed, steps::specs::Runs::onward, steps::specs::Runs::onward_as))]
-fn store_transition(
+fn store_transition<E: Numbered>(
     epoch: &mut [u64],
     net: NetworkInfo,
     p: usize,
-    moved: Transition,
-) -> Result<(), Stop>
+    moved: Transition<E>,
+) -> Result<(), Stop<E>>
     requires { EpochWords net.num_nodes epoch.old × (p < net.num_nodes) }
-    ensures { (error : ℕ) (tape : Tape) → left_reading epoch.new result tape
-        ≡ at_proposal net error p epoch.old (left_reading moved.state moved.outcome tape) }
+    ensures { (error : ℕ) (tape : Tape) → left_reading_as E.number epoch.new result tape
+        ≡ at_proposal net error p epoch.old (left_reading_as E.number moved.state moved.outcome tape) }
 {
     words::store_proposal(epoch, net.num_nodes, p, moved.state);
     if let Some(value) = moved.outcome? {
@@ -78,18 +79,18 @@ fn store_transition(
 // An answer of this kind for one proposer: kinds 3 and 4 are its broadcast's, the others its agreement's. A proposal that is not called is not
 // stored again: the value word of a complete one may hold a contribution that the epoch has not handled yet.
 #[tactic(auto, unfolding(crate::specs::Subset::broadcast_at, crate::specs::Subset::agreement_at, steps::specs::Steps::put_all))]
-fn answer_at(
+fn answer_at<E: Numbered>(
     epoch: &mut [u64],
     net: NetworkInfo,
-    error: Failure,
+    error: E,
     kind: AnswerKind,
     p: usize,
     reader: &mut Reader,
     writer: &mut Writer,
-) -> Result<(), Stop>
+) -> Result<(), Stop<E>>
     requires { EpochWords net.num_nodes epoch.old × (p < net.num_nodes) }
-    ensures run { left epoch.new result reader.new writer.new
-        ≡ leaves (out_of writer.old) (answer_at net (failure_number error) (content_of kind) (answer_number kind) p epoch.old reader.old) }
+    ensures run { left_as E.number epoch.new result reader.new writer.new
+        ≡ leaves (out_of writer.old) (answer_at net (E.number error) (content_of kind) (answer_number kind) p epoch.old reader.old) }
     ensures table { same_table writer.old writer.new }
 {
     let state = words::load_proposal(epoch, net.num_nodes, p);
@@ -111,16 +112,16 @@ fn answer_at(
 }
 
 // A round of votes for rejecting the proposals: for every proposer in rising order, HasValue included.
-fn vote_all(
+fn vote_all<E: Numbered>(
     epoch: &mut [u64],
     net: NetworkInfo,
-    error: Failure,
+    error: E,
     reader: &mut Reader,
     writer: &mut Writer,
-) -> Result<(), Stop>
+) -> Result<(), Stop<E>>
     requires { EpochWords net.num_nodes epoch.old }
-    ensures run { left epoch.new result reader.new writer.new
-        ≡ leaves (out_of writer.old) (vote_from net (failure_number error) net.num_nodes 0 epoch.old reader.old) }
+    ensures run { left_as E.number epoch.new result reader.new writer.new
+        ≡ leaves (out_of writer.old) (vote_from net (E.number error) net.num_nodes 0 epoch.old reader.old) }
     ensures table { same_table writer.old writer.new }
 {
     let kind = AnswerKind::ProposeFalse;
@@ -132,16 +133,16 @@ fn vote_all(
 
 // A round of votes where exactly N − f are accepted.
 #[tactic(auto, unfolding(crate::specs::Subset::votes, steps::specs::Steps::put_all))]
-fn votes(
+fn votes<E: Numbered>(
     epoch: &mut [u64],
     net: NetworkInfo,
-    error: Failure,
+    error: E,
     reader: &mut Reader,
     writer: &mut Writer,
-) -> Result<(), Stop>
+) -> Result<(), Stop<E>>
     requires { Network net × EpochWords net.num_nodes epoch.old }
-    ensures run { left epoch.new result reader.new writer.new
-        ≡ leaves (out_of writer.old) (votes net (failure_number error) epoch.old reader.old) }
+    ensures run { left_as E.number epoch.new result reader.new writer.new
+        ≡ leaves (out_of writer.old) (votes net (E.number error) epoch.old reader.old) }
     ensures table { same_table writer.old writer.new }
 {
     if count_accepted(epoch, net.num_nodes) == net.num_correct() {
@@ -153,16 +154,16 @@ fn votes(
 // Checks the voting and termination conditions: If enough proposals have been accepted, votes "no" for the remaining ones. If all
 // proposals have been decided, it is done.
 #[tactic(auto, unfolding(crate::specs::Subset::try_output, steps::specs::Steps::put_all))]
-fn try_output(
+fn try_output<E: Numbered>(
     epoch: &mut [u64],
     net: NetworkInfo,
-    error: Failure,
+    error: E,
     reader: &mut Reader,
     writer: &mut Writer,
-) -> Result<bool, Stop>
+) -> Result<bool, Stop<E>>
     requires { Network net × EpochWords net.num_nodes epoch.old }
-    ensures run { left epoch.new result reader.new writer.new
-        ≡ leaves (out_of writer.old) (try_output net (failure_number error) epoch.old reader.old) }
+    ensures run { left_as E.number epoch.new result reader.new writer.new
+        ≡ leaves (out_of writer.old) (try_output net (E.number error) epoch.old reader.old) }
     ensures table { same_table writer.old writer.new }
 {
     let n = net.num_nodes;
@@ -180,16 +181,16 @@ fn try_output(
 
 // Proposes a value for the subset: the own proposal is broadcast. An observer proposes nothing. It answers whether the subset is done.
 #[tactic(auto, unfolding(crate::specs::Subset::propose, steps::specs::Steps::put_all))]
-pub fn propose(
+pub fn propose<E: Numbered>(
     epoch: &mut [u64],
     net: NetworkInfo,
-    error: Failure,
+    error: E,
     reader: &mut Reader,
     writer: &mut Writer,
-) -> Result<bool, Stop>
+) -> Result<bool, Stop<E>>
     requires { Network net × EpochWords net.num_nodes epoch.old }
-    ensures run { left epoch.new result reader.new writer.new
-        ≡ leaves (out_of writer.old) (propose net (failure_number error) epoch.old reader.old) }
+    ensures run { left_as E.number epoch.new result reader.new writer.new
+        ≡ leaves (out_of writer.old) (propose net (E.number error) epoch.old reader.old) }
     ensures table { same_table writer.old writer.new }
 {
     if !net.is_validator() {
@@ -212,18 +213,18 @@ fn message_kind(content: Content) -> AnswerKind
 }
 
 // Handles a message of the broadcast or of the agreement of a proposer. It answers whether the subset is done.
-pub fn handle_message(
+pub fn handle_message<E: Numbered>(
     epoch: &mut [u64],
     net: NetworkInfo,
-    error: Failure,
+    error: E,
     content: Content,
     proposer: usize,
     reader: &mut Reader,
     writer: &mut Writer,
-) -> Result<bool, Stop>
+) -> Result<bool, Stop<E>>
     requires { Network net × EpochWords net.num_nodes epoch.old × (proposer < net.num_nodes) }
-    ensures run { left epoch.new result reader.new writer.new
-        ≡ leaves (out_of writer.old) (handle_message net (failure_number error) content proposer epoch.old reader.old) }
+    ensures run { left_as E.number epoch.new result reader.new writer.new
+        ≡ leaves (out_of writer.old) (handle_message net (E.number error) content proposer epoch.old reader.old) }
     ensures table { same_table writer.old writer.new }
 {
     let kind = message_kind(content);

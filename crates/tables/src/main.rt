@@ -15,9 +15,8 @@ ghost use Rattle.std.specs.Prelude.{◌≤◌, ◌<◌};
 ghost use Rattle.network.specs.Network.{Network};
 
 use decryption::ThresholdDecrypt;
-use lines::{OtherLine, first_of, kind_and_numbers, say, write_numbers};
+use lines::{OtherLine, first_of, kind_of, numbers, say, write_numbers};
 use network::network_info::NetworkInfo;
-use std::alloc::Global;
 use std::fmt;
 use std::io::{self, BufWriter, Read, Write};
 use steps::kinds::{AnswerKind, Stop};
@@ -144,7 +143,6 @@ fn instance(given: &[u64]) -> ThresholdDecrypt {
 // The instance that gets shares, and where lines are written.
 #[derive(Drop)]
 struct Tables<W> {
-    alloc: Global,
     out: W,
     td: ThresholdDecrypt,
 }
@@ -207,13 +205,16 @@ impl<W: Write> Tables<W> {
         if let [b'=', text @ ..] = line {
             return say(&mut self.out, text.get(1..).unwrap_or(&[]));
         }
-        let Some((kind, given)) = kind_and_numbers(self.alloc, line, Kind::Instance, MOST_NUMBERS)?
-        else {
+        let Some(kind) = kind_of::<Kind>(line) else {
             return Ok(());
         };
-        match (kind, given.as_slice()) {
-            (Kind::Instance, given) => {
-                self.td = instance(given);
+        // Words of a fixed number, since a Vec for each line took a quarter more time on short lines.
+        let mut given = [0; MOST_NUMBERS];
+        let ended = numbers(line, &mut given);
+        match (kind, &given[..ended]) {
+            // also a number that the line's end cuts off
+            (Kind::Instance, _) => {
+                self.td = instance(&given);
                 Ok(())
             }
             (Kind::Parts, [kind, who, answers @ ..]) => self.parts(*kind, *who as usize, answers),
@@ -230,7 +231,6 @@ fn main(rt: HostRuntime) -> io::Result<()> {
     let mut text = Vec::new(alloc);
     rt.reader().take(MOST_BYTES).read_to_end(&mut text)?;
     let mut tables = Tables {
-        alloc,
         out: BufWriter::new(alloc, io::writer(&rt))?,
         td: ThresholdDecrypt::new(),
     };

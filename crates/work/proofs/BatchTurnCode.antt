@@ -2,6 +2,7 @@
 use Rattle.std.proofs.Common.{ℕ, suc, ◌+◌, ◌-◌, ◌<◌, arith, ◌≡◌, refl, sym, ap, ◌∙◌, List, Bool, true, false, eq-eqb, ne_eqb, Err}
 use Rattle.steps.specs.Answers.{Tape}
 use Rattle.steps.specs.Steps.{Out, put_all}
+use Rattle.steps.specs.declared.kinds.Failure.{Failure}
 use Rattle.steps.specs.declared.kinds.Stop.{Stop}
 use Rattle.steps.specs.declared.kinds.Stop.TheVariants.{NotNext, Failed}
 use Rattle.steps.specs.Kinds.{verdict_of}
@@ -84,7 +85,7 @@ module _ (n : ℕ) (words : ℕ → List ℕ) (behind e : ℕ) (p : Tape) (o : O
   tried_over z = rw one_more (rw z at ((turn n words (behind - (e + 1)) e p o d left).1 (λ y. absurd (cc))))
 
   -- handing out its batch ended the run
-  pub tried_ends : (f : Stop) → d.verdict ≡ verdict_of {A = Bool} (Err f)
+  pub tried_ends : (f : Stop Failure) → d.verdict ≡ verdict_of {A = Bool} (Err f)
       → record { state = e; verdict = verdict_of {A = Unit {0}} (Err f); tape = d.tape; out = d.out } ≡ leaves o (batches_from n words (behind - e) e p)
   tried_ends NotNext z = rw one_more (rw z at ((turn n words (behind - (e + 1)) e p o d left).1 (λ y. absurd (cc))))
   tried_ends (Failed c) z = rw one_more (rw z at ((turn n words (behind - (e + 1)) e p o d left).1 (λ y. absurd (cc))))

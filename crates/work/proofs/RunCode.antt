@@ -2,6 +2,7 @@
 use Rattle.std.proofs.Common.{ℕ, ◌+◌, ◌≡◌, refl, ap, List, true, Result, Ok, Err}
 use Rattle.network.specs.declared.network_info.NetworkInfo.{NetworkInfo}
 use Rattle.network.specs.Network.{Network}
+use Rattle.steps.specs.declared.kinds.Failure.{Failure}
 use Rattle.steps.specs.declared.kinds.Stop.{Stop}
 use Rattle.steps.specs.declared.kinds.Stop.TheVariants.{NotNext, Failed}
 use Rattle.steps.specs.declared.step.Writer.{Writer}
@@ -29,7 +30,7 @@ use Rattle.work.proofs.RunBesideState.{built_keeps}
 -- WHAT THE EPOCH'S CALL REQUIRES, of a state in range
 module _ (w : List ℕ) (ok : state_ok w ≡ true) where
   -- the words that building left have a list of contributions as it must be
-  pub built_listed : (e : ℕ) (p : Tape) (r : Result (Unit {0}) Stop) (x : List ℕ) (q : Tape) → left_reading x r q ≡ built (nodes w) (epoch_words w e) p → Listed (nodes w) x
+  pub built_listed : (e : ℕ) (p : Tape) (r : Result (Unit {0}) (Stop Failure)) (x : List ℕ) (q : Tape) → left_reading x r q ≡ built (nodes w) (epoch_words w e) p → Listed (nodes w) x
   built_listed e p r x q left =
       rw (ap (λ s. s.state) left)
       (built_keeps (nodes w) (epoch_words w e) p (Listed (nodes w)) (words_listed w ok e) (ok_listed _ _ (new_epoch_ok (nodes w) (header_ok w ok).some)))
@@ -55,16 +56,16 @@ call_comes (Message sender proposer (Subset content)) n h = h.1
 call_comes (Message sender proposer (DecryptionShare share)) n h = h
 
 -- THE RUN, from what its epoch's call left: it ended there, or went on with the batches
-stopped : (f : Stop) (a : Unit {0}) → verdict_of {A = Unit {0}} (Err f) ≡ going a → ⊥
+stopped : (f : Stop Failure) (a : Unit {0}) → verdict_of {A = Unit {0}} (Err f) ≡ going a → ⊥
 stopped NotNext a e = absurd (cc)
 stopped (Failed c) a e = absurd (cc)
 
 module _ (w : List ℕ) (e : ℕ) (body : List ℕ → Tape → Run (List ℕ) (Unit {0})) (p : Tape) (o : Out) (x : List ℕ) (q : Tape) (v : Writer) where
-  pub run_ends : (f : Stop) → left {A = Unit {0}} x (Err f) q v ≡ leaves o (epoch_call (nodes w) body (epoch_words w e) p)
+  pub run_ends : (f : Stop Failure) → left {A = Unit {0}} x (Err f) q v ≡ leaves o (epoch_call (nodes w) body (epoch_words w e) p)
       → left {A = Unit {0}} (worked x (current_epoch w)) (Err f) q v ≡ leaves o (work_in w e body p)
   run_ends f h = work_stops w e body p o (left x (Err f) q v) h (stopped f)
 
   pub run_goes : left x (Ok tt) q v ≡ leaves o (epoch_call (nodes w) body (epoch_words w e) p)
-      → (n : ℕ) (r : Result (Unit {0}) Stop) (z : Tape) (u : Writer) → left n r z u ≡ leaves (out_of v) (batches_from (nodes w) (beside w e x) (ahead w + 1) (current_epoch w) q)
+      → (n : ℕ) (r : Result (Unit {0}) (Stop Failure)) (z : Tape) (u : Writer) → left n r z u ≡ leaves (out_of v) (batches_from (nodes w) (beside w e x) (ahead w + 1) (current_epoch w) q)
       → left (worked x n) r z u ≡ leaves o (work_in w e body p)
   run_goes h n r z u b = work_goes w e body p o (left x (Ok tt) q v) h refl (left n r z u) b

@@ -6,8 +6,8 @@ use Rattle.steps.proofs.reader.Reader.ask.Goals as goal
 
 pub returns : goal.returns
 unfolding ask
-returns c = rw (sym c.from.ensures) (c.take.ensures ∙ asked_taken _ c.args.self.now c.in-Some.found (sym c.peek.ensures ∙ c.in-Some.is))
+returns g c = rw (sym c.number.ensures) (c.take.ensures ∙ asked_taken _ c.args.self.now c.in-Some.found (sym c.peek.ensures ∙ c.in-Some.is))
 
 pub returns-in_default : goal.returns-in_default
 unfolding ask
-returns-in_default c = asked_none _ c.args.self.now (sym c.peek.ensures ∙ c.in_default.is)
+returns-in_default g c = asked_none _ c.args.self.now (sym c.peek.ensures ∙ c.in_default.is)

@@ -4,4 +4,4 @@ use Rattle.steps.proofs.ChainLaws.{message_put}
 use Rattle.steps.proofs.step.Writer.message.Goals as goal
 
 pub returns-clause-step : goal.returns-clause-step
-returns-clause-step c = rw (sym c.from.ensures) (message_put c.args.self.now.step c.args.self.now.words.now c.put.new.words c.put.new.self _ c.args.a c.args.b c.put.ensures)
+returns-clause-step g c = rw (sym c.number.ensures) (message_put c.args.self.now.step c.args.self.now.words.now c.put.new.words c.put.new.self _ c.args.a c.args.b c.put.ensures)
